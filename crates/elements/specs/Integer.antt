@@ -1,0 +1,65 @@
+-- "INTEGER and ENUMERATED are shortest; a negative one is 7": sign and magnitude, so that a negative one is out of every bound.
+use Prim.Native.Nat.{ℕ, zero, suc, _+_, _-_, _*_, _/_, _%_}
+use mathlib.Core.List.{List, [], _∷_, _++_}
+use mathlib.Core.Bool.{Bool, true, false}
+use lib.ListN.{length, getD}
+use lib.Dec.{ltb, leb, eqb}
+use Rattle.elements.specs.Choice.{pick, choose}
+use Rattle.elements.specs.declared.fault.Fault.the-variants.{BadInteger}
+use Rattle.elements.specs.declared.answer.Value.{Value}
+use Rattle.elements.specs.declared.answer.Value.the-variants.{Of, Wrong}
+
+-- the largest magnitude told: it stands for itself and for all above
+abbrev pub most : ℕ
+most = 4294967295
+
+abbrev pub least : ℕ → ℕ → ℕ
+least m n = pick (ltb m n) m n
+
+-- two's complement: minus v - 1 has the complement of v's bytes
+abbrev pub digit : Bool → ℕ → ℕ
+digit false x = x
+digit true x = 255 - x
+
+unfoldable pub bare : Bool → List ℕ → List ℕ
+bare n [] = []
+bare n (x ∷ l) = digit n x ∷ bare n l
+
+-- bytes, the most significant first, after those that came to v
+unfoldable pub big : ℕ → List ℕ → ℕ
+big v [] = v
+big v (x ∷ l) = big (v * 256 + x) l
+
+abbrev pub beyond : Bool → ℕ
+beyond false = 0
+beyond true = 1
+
+-- sign and magnitude of contents of any length
+unfoldable pub magnitude : Bool → List ℕ → Value
+magnitude n c = Of n (least (big 0 (bare n c) + beyond n) most)
+
+-- the first bit is the sign
+unfoldable pub whole : List ℕ → Value
+whole c = pick (ltb (getD c 0 0) 128) (magnitude false c) (magnitude true c)
+
+-- the first nine bits are equal: the first byte could be left out
+unfoldable pub padded : ℕ → ℕ → Bool
+padded x y = pick (eqb x 0) (ltb y 128) (pick (eqb x 255) (leb 128 y) false)
+
+unfoldable pub integer : List ℕ → Value
+integer c =
+    pick (eqb (length c) 0) (Wrong BadInteger)
+    (pick (eqb (length c) 1) (whole c)
+    (pick (padded (getD c 0 0) (getD c 1 0)) (Wrong BadInteger)
+    (whole c)))
+
+-- the way back: the fewest bytes of w that leave the first bit clear, complemented where the number is negative; k bounds the bytes
+unfoldable pub spreadBy : ℕ → Bool → ℕ → List ℕ
+spreadBy zero n w = digit n w ∷ []
+spreadBy (suc k) n w = choose (ltb w 128) (λ _. digit n w ∷ []) (λ _. spreadBy k n (w / 256) ++ (digit n (w % 256) ∷ []))
+
+unfoldable pub spread : Bool → ℕ → List ℕ
+spread n w = spreadBy w n w
+
+unfoldable pub integerBytes : Bool → ℕ → List ℕ
+integerBytes n m = spread n (m - beyond n)

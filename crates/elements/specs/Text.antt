@@ -1,0 +1,56 @@
+-- "UTF8String is well formed": RFC 3629, section 4, its alternatives in its order.
+use Prim.Native.Nat.{ℕ, zero, suc, _+_, _-_}
+use mathlib.Core.List.{List, [], _∷_}
+use mathlib.Core.Bool.{Bool, true, false, _&&_}
+use lib.Dec.{ltb, leb, eqb}
+use Rattle.elements.specs.Choice.{pick, choose}
+use Rattle.elements.specs.Told.{told}
+use Rattle.elements.specs.declared.fault.Fault.the-variants.{BadText}
+use Rattle.elements.specs.declared.answer.Value.{Value}
+use Rattle.elements.specs.declared.answer.Value.the-variants.{Of, Wrong}
+use Rattle.elements.specs.declared.text.Due.{Due}
+use Rattle.elements.specs.declared.text.Next.{Next}
+use Rattle.elements.specs.declared.text.Next.the-variants.{Then, Never}
+
+-- so many bytes more of a character, the next of them from l to h
+abbrev pub due : ℕ → ℕ → ℕ → Due
+due k l h = record { more = k; low = l; high = h }
+
+-- from l to h
+abbrev pub from : ℕ → ℕ → ℕ → Bool
+from l h b = leb l b && leb b h
+
+-- the first byte of a character
+unfoldable pub leadOf : ℕ → Next
+leadOf b =
+    pick (from 0x00 0x7f b) (Then (due 0 0 0))
+    (pick (from 0xc2 0xdf b) (Then (due 1 0x80 0xbf))
+    (pick (from 0xe0 0xe0 b) (Then (due 2 0xa0 0xbf))
+    (pick (from 0xe1 0xec b) (Then (due 2 0x80 0xbf))
+    (pick (from 0xed 0xed b) (Then (due 2 0x80 0x9f))
+    (pick (from 0xee 0xef b) (Then (due 2 0x80 0xbf))
+    (pick (from 0xf0 0xf0 b) (Then (due 3 0x90 0xbf))
+    (pick (from 0xf1 0xf3 b) (Then (due 3 0x80 0xbf))
+    (pick (from 0xf4 0xf4 b) (Then (due 3 0x80 0x8f))
+    Never))))))))
+
+-- a byte where d is due; UTF8-tail = %x80-BF
+unfoldable pub stepOf : Due → ℕ → Next
+stepOf d b =
+    pick (eqb (d .more) 0) (leadOf b)
+    (pick (ltb b (d .low)) Never
+    (pick (ltb (d .high) b) Never
+    (Then (due (d .more - 1) 0x80 0xbf))))
+
+-- a byte starts a character where nothing is due
+unfoldable pub starts : Due → ℕ
+starts d = pick (eqb (d .more) 0) 1 0
+
+-- n characters were started, and d is due
+unfoldable pub textFrom : Due → ℕ → List ℕ → Value
+textFrom d n [] = pick (eqb (d .more) 0) (told n) (Wrong BadText)
+textFrom d n (b ∷ l) = elim (stepOf d b) [ Then t ↦ textFrom t (n + starts d) l | Never ↦ Wrong BadText ]
+
+-- UTF8-octets = *( UTF8-char ): how many characters
+unfoldable pub text : List ℕ → Value
+text c = textFrom (due 0 0 0) 0 c
