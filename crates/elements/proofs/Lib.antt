@@ -5,5 +5,5 @@ pub mod AmongLaws
 pub mod RunLaws
 pub mod IntegerLoop
 pub mod PutLoops
-pub mod Keys
-pub mod LoopLaws
+pub mod KeyLaws
+pub mod ScanLaws

@@ -16,6 +16,8 @@ use Rattle.elements.specs.Says.{Says, wrong, says, by-test, said}
 use Rattle.elements.specs.declared.answer.Value.{Value}
 use Rattle.elements.specs.declared.answer.Value.the-variants.{Of, Wrong}
 use Rattle.elements.specs.Bits.{reversed, weigh, bitsOf, bits, width, flagRun, flagBytes}
+use Rattle.elements.specs.declared.answer.Form.the-variants as form
+use Rattle.elements.specs.Encodings.{Encodes}
 use Rattle.elements.specs.BitsLaws.{reversed-small}
 
 -- tests that are computed for every number below n
@@ -153,10 +155,7 @@ flags-are u k e w h q l t =
     let r : k * 8 - suc e ≡ u = omega arith in
     rw (width-is e w l t, p, r)
 
-abbrev pub Flags : List ℕ → Bool → ℕ → Type 0
-Flags c n m = (n ≡ false) × (m < 2 ^ 32) × (c ≡ flagBytes m)
-
-closed : (u x : ℕ) (l : List ℕ) → u < 8 → Bytes (x ∷ l) → closes u (getD (x ∷ l) (length l) 0) ≡ true → 8 * length (x ∷ l) - u ≤ 32 → Flags (u ∷ x ∷ l) false (weigh (x ∷ l))
+closed : (u x : ℕ) (l : List ℕ) → u < 8 → Bytes (x ∷ l) → closes u (getD (x ∷ l) (length l) 0) ≡ true → 8 * length (x ∷ l) - u ≤ 32 → Encodes form.Bits (u ∷ x ∷ l) false (weigh (x ∷ l))
 closed u x l h b c k =
     let e : ℕ = 8 * length (x ∷ l) - u - 1 in
     let q : e + u + 1 ≡ 8 * length (x ∷ l) = omega arith in
@@ -172,7 +171,7 @@ none-set = refl
 last-at : (u x : ℕ) (l : List ℕ) → getD (u ∷ x ∷ l) (length (u ∷ x ∷ l) - 1) 0 ≡ getD (x ∷ l) (length l) 0
 last-at u x l = ap (λ i. getD (u ∷ x ∷ l) i 0) (let z : length (u ∷ x ∷ l) - 1 ≡ suc (length l) = omega arith in z)
 
-bits-says : (c : List ℕ) → Bytes c → Says (Flags c) (bits c)
+bits-says : (c : List ℕ) → Bytes c → Says (Encodes form.Bits c) (bits c)
 unfolding bits bitsOf
 bits-says [] b = wrong
 bits-says (u ∷ []) b = by-test (ltb 7 u) (λ _. wrong) (λ _. by-test (eqb u 0) (λ t. says {n = false} {m = 0} (refl, omega arith, rw (eqb-true u 0 t) (sym none-set))) (λ _. wrong))
@@ -185,7 +184,7 @@ bits-says (u ∷ x ∷ l) b =
     (λ _. wrong)) (λ _. wrong)))
 
 -- contents that are read as named bits are the encoding of the flag word told
-pub bits-sound : (c : List ℕ) → Bytes c → {n : Bool} {m : ℕ} → bits c ≡ Of n m → Flags c n m
+pub bits-sound : (c : List ℕ) → Bytes c → {n : Bool} {m : ℕ} → bits c ≡ Of n m → Encodes form.Bits c n m
 bits-sound c b e = said (bits-says c b) e
 
 run-length : (k w : ℕ) → length (flagRun k w) ≡ k

@@ -28,3 +28,4 @@ pub mod PutLaws
 pub mod RecordLaws
 pub mod TextLaws
 pub mod TimeLaws
+pub mod ValueLaws

@@ -3,8 +3,8 @@ use Prim.Native.Nat.{ℕ, zero, suc, _+_, _-_, _*_, _/_, _%_, _≤_, _<_}
 use mathlib.Core.Path.{_≡_, refl, sym, _∙_, ap}
 use mathlib.Core.List.{List, [], _∷_, _++_}
 use mathlib.Core.Bool.{Bool, true, false, _&&_, _||_}
-use lib.Dec.{leb, ltb, eqb, T, leb→le, ltb→lt}
-use borrow.Author.Tests.{le-leb, lt-leb, leb-true, leb-false, ltb-true, ltb-false, lt-ltb, le-ltb, ne-eqb}
+use lib.Dec.{leb, ltb, T, leb→le, ltb→lt}
+use borrow.Author.Tests.{le-leb, lt-leb, leb-true, ltb-true, ltb-false, lt-ltb, le-ltb, ne-eqb}
 use native.Mathlib.Nat.{add-zero, zero-add}
 use native.Mathlib.Omega.{arith}
 use lib.ListN.{length, length-append}
@@ -109,6 +109,7 @@ split {P} u n f g = go (ltb u n) refl
     go true e = f (ltb-true u n e)
     go false e = g (ltb-false u n e)
 
+-- how many bytes a scalar value takes, and which
 size1 : (u : ℕ) → u < 0x80 → utf8 u ≡ u ∷ []
 unfolding utf8
 size1 u h = rw (lt-ltb u 0x80 h)
@@ -135,6 +136,7 @@ module _ (u m n l h : ℕ) (same : T (level rows m n)) where
   four : leadOf m ≡ Then (due 3 l h) → (0x10000 ≤ u) × (m ≤ 0xf0 + u / 262144) × (0xf0 + u / 262144 ≤ n) × (l ≤ 0x80 + u / 4096 % 64) × (0x80 + u / 4096 % 64 ≤ h) → Char (utf8 u)
   four e f = rw (size4 u (f .0)) (char (leads m n (0xf0 + u / 262144) same (f .1) (f .2) ∙ e) (tail (0x80 + u / 4096 % 64) (f .3) (f .4) (six (u / 64) (six u end))))
 
+-- the bytes of a scalar value are a character
 encoded : {u : ℕ} → Scalar u → Char (utf8 u)
 unfolding leadOf
 encoded {u} (below s) =
@@ -158,6 +160,7 @@ unfolding text told
 text-complete h = rw (h .bytes, h .count, texts 0 (h .each), zero-add)
 
 -- ---- from bytes that are read to their scalar values
+-- a row of the table has byte b, and leaves d due
 data Among (b : ℕ) : Due → List Row → Type 0 where
   here : {l h : ℕ} {d : Due} {r : List Row} → l ≤ b → b ≤ h → Among b d (row l h d ∷ r)
   later : {d : Due} {x : Row} {r : List Row} → Among b d r → Among b d (x ∷ r)
@@ -177,6 +180,7 @@ record Encoded (bs : List ℕ) : Type 0 where
   scalar : Scalar u
   is : bs ≡ utf8 u
 
+-- the number that the bytes of a character give, by their count
 of1 : (b : ℕ) → b ≤ 0x7f → Encoded (b ∷ [])
 of1 b h = record { u = b; scalar = below (omega arith); is = rw (size1 b (omega arith)) }
 
@@ -207,6 +211,7 @@ v3 b x y = b * 4096 + x * 64 + y - 0xe2080
 abbrev v4 : ℕ → ℕ → ℕ → ℕ → ℕ
 v4 b x y z = b * 262144 + x * 4096 + y * 64 + z - 0x3c82080
 
+-- the bytes of a character are those of a scalar value, row by row of the table
 decoded : {b : ℕ} {d : Due} {bs : List ℕ} → Among b d rows → Tails (d .more) (d .low) (d .high) bs → Encoded (b ∷ bs)
 decoded {b} (here p q) end = of1 b q
 decoded {b} (later (here p q)) (tail x f g end) = of2 b x (b * 64 + x - 0x3080) (omega arith) (omega arith)
@@ -251,6 +256,7 @@ chars n {s} {m} b c e = go (leadOf b) refl
     go Never f = absurd (refused (due 0 0 0) b n c f e)
     go (Then t) f = more-of (tails (t .more) (t .low) (t .high) (n + 1) c (rw (f, textFrom) at e)) (λ bs. char f)
 
+-- c is the encoding of scalar values, and n more than those are told
 record Spelt (n : ℕ) (v : Value) (c : List ℕ) : Type 0 where
   scalars : List ℕ
   each : Scalars scalars

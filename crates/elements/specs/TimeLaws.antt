@@ -2,7 +2,7 @@
 use Prim.Native.Nat.{ℕ, zero, suc, _+_, _-_, _*_, _/_, _%_, _≤_, _<_}
 use mathlib.Core.Path.{_≡_, refl, sym, _∙_, ap}
 use mathlib.Core.List.{List, [], _∷_, _++_}
-use mathlib.Core.Bool.{Bool, true, false, _&&_, _||_}
+use mathlib.Core.Bool.{Bool, true, false, _&&_}
 use lib.ListN.{length, getD, drop, drop-of-length-le}
 use lib.Seq.{drop-cons}
 use lib.Dec.{leb, ltb, eqb, lit≤}
@@ -16,14 +16,9 @@ use Rattle.elements.specs.declared.fault.Fault.the-variants.{BadTime}
 use Rattle.elements.specs.declared.answer.Value.the-variants.{Of, Wrong}
 
 -- there is no month after the twelfth
-pub no-month : (y m : ℕ) → 12 < m → daysOf y m ≡ 0
+no-month : (y m : ℕ) → 12 < m → daysOf y m ≡ 0
 unfolding daysOf
 no-month y m h = rw (ne-eqb m 2 (omega arith), ne-eqb m 4 (omega arith), ne-eqb m 6 (omega arith), ne-eqb m 9 (omega arith), ne-eqb m 11 (omega arith), le-leb 1 m (omega arith), lt-leb m 12 h)
-
--- July and August
-pub long-month : (y m : ℕ) → 7 ≤ m → m < 9 → daysOf y m ≡ 31
-unfolding daysOf
-long-month y m h l = rw (ne-eqb m 2 (omega arith), ne-eqb m 4 (omega arith), ne-eqb m 6 (omega arith), ne-eqb m 9 (omega arith), ne-eqb m 11 (omega arith), le-leb 1 m (omega arith), le-leb m 12 (omega arith))
 
 -- ---- reading what was written
 high-digit : (a : ℕ) → a < 100 → isDigit (48 + a / 10) ≡ true

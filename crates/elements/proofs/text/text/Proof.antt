@@ -4,7 +4,7 @@ use lib.ListN.{length, drop}
 use borrow.Author.Needs.{needs}
 use native.Mathlib.Omega.{arith}
 use Rattle.elements.specs.Text.{text, textFrom}
-use Rattle.elements.proofs.LoopLaws.{starts-one, text-then, text-never, text-whole, text-cut}
+use Rattle.elements.proofs.ScanLaws.{starts-one, text-then, text-never, text-whole, text-cut}
 use Rattle.elements.proofs.text.text.Statement.{statement}
 use Rattle.elements.proofs.text.text.Tie as tie
 

@@ -1,19 +1,35 @@
-use Prim.Native.Nat.{ℕ}
-use mathlib.Core.Path.{_≡_, sym}
+use Prim.Native.Nat.{ℕ, _≤_, _<_}
+use mathlib.Core.Path.{_≡_}
 use mathlib.Core.List.{List, [], _∷_}
+use lib.Dec.{leb}
+use types.Run.{OneOf}
+use borrow.Author.Tests.{le-leb, lt-leb, ne-eqb}
 use borrow.Author.Needs.{needs}
 use native.Mathlib.Omega.{arith}
+use Rattle.elements.specs.Choice.{pick}
 use Rattle.elements.specs.Time.{daysOf}
-use Rattle.elements.specs.TimeLaws.{no-month, long-month}
-use Rattle.elements.proofs.Keys.{alike, not-key}
+use Rattle.elements.proofs.KeyLaws.{alike, not-key}
 use Rattle.elements.proofs.time.days_of.Statement.{statement}
 use Rattle.elements.proofs.time.days_of.Tie as tie
 
+-- the months that a match finds by their number
 abbrev evens : List ℕ
 evens = 4 ∷ 6 ∷ 9 ∷ 11 ∷ []
 
 abbrev odds : List ℕ
 odds = 1 ∷ 3 ∷ 5 ∷ 10 ∷ 12 ∷ []
+
+-- the others: July and August, and what is no month
+module _ (y m : ℕ) (from : 1 ≤ m) (february : m ≡ 2 → ⊥) (even : OneOf evens m → ⊥) (odd : OneOf odds m → ⊥) where
+  rest : daysOf y m ≡ pick (leb m 12) 31 0
+  unfolding daysOf
+  rest = rw (ne-eqb m 2 february, ne-eqb m 4 (not-key evens 4 m tt even), ne-eqb m 6 (not-key evens 6 m tt even), ne-eqb m 9 (not-key evens 9 m tt even), ne-eqb m 11 (not-key evens 11 m tt even), le-leb 1 m from)
+
+  before-ninth : m < 9 → 31 ≡ daysOf y m
+  before-ninth h = rw (rest, le-leb m 12 (omega arith))
+
+  after : 9 ≤ m → 0 ≡ daysOf y m
+  after h = rw (rest, lt-leb m 12 (omega (arith, not-key evens 9 m tt even, not-key odds 10 m tt odd, not-key evens 11 m tt even, not-key odds 12 m tt odd)))
 
 pub days-of-spec : {M : Type 1} → statement M
 unfolding daysOf
@@ -23,7 +39,7 @@ days-of-spec =
     (λ c κs. search needs)
     (λ c. rw (c .before .match .keys1) (c .february .ensures))
     (λ c. alike (daysOf (c .before .args .y)) 30 evens (c .before .args .m) (search needs) (c .match .keys2))
-    (λ c. let e : (c .before .before .args .m) ≡ 0 = omega arith in rw e)
-    (λ c. sym (no-month (c .before .before .before .args .y) (c .before .before .before .args .m) (omega (arith, not-key evens 9 (c .before .before .before .args .m) tt (c .before .before .match .rest .0 .1), not-key odds 10 (c .before .before .before .args .m) tt (c .before .before .match .rest .1), not-key evens 11 (c .before .before .before .args .m) tt (c .before .before .match .rest .0 .1), not-key odds 12 (c .before .before .before .args .m) tt (c .before .before .match .rest .1)))))
+    (λ c. let e : c .before .before .args .m ≡ 0 = omega arith in rw e)
+    (λ c. search after)
     (λ c. alike (daysOf (c .before .args .y)) 31 odds (c .before .args .m) (search needs) (c .match .keys3))
-    (λ c. sym (long-month (c .before .before .before .args .y) (c .before .before .before .args .m) (omega (arith, not-key odds 1 (c .before .before .before .args .m) tt (c .before .before .match .rest .1), not-key odds 3 (c .before .before .before .args .m) tt (c .before .before .match .rest .1), not-key evens 4 (c .before .before .before .args .m) tt (c .before .before .match .rest .0 .1), not-key odds 5 (c .before .before .before .args .m) tt (c .before .before .match .rest .1), not-key evens 6 (c .before .before .before .args .m) tt (c .before .before .match .rest .0 .1))) (search needs))))
+    (λ c. search before-ninth))

@@ -4,7 +4,7 @@ use lib.ListN.{drop}
 use native.Mathlib.Nat.{sub-zero}
 use borrow.Author.Needs.{needs}
 use Rattle.elements.specs.Time.{digits}
-use Rattle.elements.proofs.LoopLaws.{digit-on, digit-off, digits-end}
+use Rattle.elements.proofs.ScanLaws.{digit-on, digit-off, digits-end}
 use Rattle.elements.proofs.time.digits.Statement.{statement}
 use Rattle.elements.proofs.time.digits.Tie as tie
 

@@ -1,5 +1,4 @@
 use borrow.Author.Needs.{needs}
-use Rattle.elements.proofs.Auto.{tests}
 use mathlib.Core.Path.{sym, _∙_}
 use Rattle.elements.specs.Time.{daysOf}
 use Rattle.elements.proofs.time.february.Statement.{statement}
