@@ -5,7 +5,7 @@ use crate::answer::Value;
 use crate::bits::bits;
 use crate::boolean::boolean;
 use crate::fault::Fault;
-use crate::header::header;
+use crate::headers::header;
 use crate::integer::integer;
 use crate::text::text;
 use crate::time::time;

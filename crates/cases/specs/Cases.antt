@@ -1,0 +1,63 @@
+-- The P cases of document 01: one table, one statement.
+use Prim.Native.Nat.{ℕ}
+use mathlib.Core.Path.{_≡_, refl}
+use mathlib.Core.List.{List, [], _∷_, map}
+use mathlib.Core.Bool.{true, false}
+use lib.ListN.{length}
+use Rattle.elements.specs.declared.answer.Form.{Form}
+use Rattle.elements.specs.declared.answer.Form.the-variants.{Integer, Bits, Time}
+use Rattle.elements.specs.declared.answer.Read.{Read}
+use Rattle.elements.specs.declared.answer.Read.the-variants.{Took, Refused}
+use Rattle.elements.specs.Faults.{numberOf}
+use Rattle.elements.specs.Header.{header, highTag, further, lengthAt, long1, long2, long2Of, fitted}
+use Rattle.elements.specs.Integer.{integer, whole, padded, magnitude, bare, big}
+use Rattle.elements.specs.Bits.{bits, bitsOf, weigh, reversed}
+use Rattle.elements.specs.Time.{time, stated, digits, two, dated, clocked, daysOf, leap}
+use Rattle.elements.specs.Values.{value, element}
+
+-- an answer as document 01 gives it
+pub data Answer : Type 0 where
+  -- a value and the next place
+  is : ℕ → ℕ → Answer
+  minus : ℕ → ℕ → Answer
+  -- a refusal's number and place
+  refused : ℕ → ℕ → Answer
+
+abbrev answer : Read → Answer
+answer (Took false m e) = is m e
+answer (Took true m e) = minus m e
+answer (Refused f p) = refused (numberOf f) p
+
+-- reading one element of a tag and a form at the start of the bytes
+unfoldable reading : Form → ℕ → List ℕ → Answer
+unfolding element value header highTag further lengthAt long1 long2 long2Of fitted integer whole padded magnitude bare big bits bitsOf weigh reversed time stated digits two dated clocked daysOf leap
+reading f tag s = answer (element f tag s 0 (length s))
+
+pub record Case : Type 0 where
+  -- the number behind the P
+  pub name : ℕ
+  pub got : Answer
+  pub want : Answer
+
+abbrev p : ℕ → Answer → Answer → Case
+p n g w = record { name = n; got = g; want = w }
+
+pub table : List Case
+unfolding reading
+table =
+    p 1 (reading Bits 0x03 (0x03 ∷ 0x02 ∷ 0x07 ∷ 0x80 ∷ [])) (is 1 4) ∷
+    p 2 (reading Bits 0x03 (0x03 ∷ 0x03 ∷ 0x06 ∷ 0x20 ∷ 0x40 ∷ [])) (is 516 5) ∷
+    p 3 (reading Bits 0x03 (0x03 ∷ 0x02 ∷ 0x03 ∷ 0x98 ∷ [])) (is 25 4) ∷
+    p 4 (reading Bits 0x03 (0x03 ∷ 0x02 ∷ 0x05 ∷ 0x80 ∷ [])) (refused 6 0) ∷
+    p 5 (reading Integer 0x02 (0x02 ∷ 0x02 ∷ 0x00 ∷ 0xff ∷ [])) (is 255 4) ∷
+    p 6 (reading Integer 0x02 (0x02 ∷ 0x01 ∷ 0x00 ∷ 0xff ∷ [])) (is 0 3) ∷
+    p 7 (reading Integer 0x02 (0x02 ∷ 0x02 ∷ 0x00 ∷ 0x7f ∷ [])) (refused 6 0) ∷
+    -- 20000229000000Z holds, 19000229000000Z does not
+    p 10 (reading Time 0x18 (0x18 ∷ 0x0f ∷ 50 ∷ 48 ∷ 48 ∷ 48 ∷ 48 ∷ 50 ∷ 50 ∷ 57 ∷ 48 ∷ 48 ∷ 48 ∷ 48 ∷ 48 ∷ 48 ∷ 90 ∷ [])) (is 0 17) ∷
+    p 10 (reading Time 0x18 (0x18 ∷ 0x0f ∷ 49 ∷ 57 ∷ 48 ∷ 48 ∷ 48 ∷ 50 ∷ 50 ∷ 57 ∷ 48 ∷ 48 ∷ 48 ∷ 48 ∷ 48 ∷ 48 ∷ 90 ∷ [])) (refused 6 0) ∷
+    []
+
+-- every case is answered as document 01 says
+pub all-hold : map (λ c. c .got) table ≡ map (λ c. c .want) table
+unfolding table reading
+all-hold = refl

@@ -1,0 +1,162 @@
+use crate::element;
+use crate::hex;
+use crate::hex::Number;
+use crate::hex::decimal;
+use crate::show;
+use elements::Form;
+use elements::header;
+use elements::put_length;
+use elements::sealed;
+ghost use Prim.Native.Nat.{_≤_};
+ghost use lib.ListN.{length};
+
+// Whether a line starts with a word.
+fn starts(line: &[u8], word: &[u8]) -> bool {
+    if line.len() < word.len() {
+        return false;
+    }
+    let mut i = 0;
+    while i < word.len() {
+        if line[i] != word[i] {
+            return false;
+        }
+        i += 1;
+    }
+    true
+}
+
+// Where a line goes on after its first space, or its end.
+fn after(line: &[u8]) -> usize
+    ensures { λ r. ⌜ r ≤ length (now (line .entry)) ⌝ }
+{
+    let mut i = 0;
+    while i < line.len() {
+        if line[i] == b' ' {
+            return i + 1;
+        }
+        i += 1;
+    }
+    i
+}
+
+// The shortest length field of the number.
+fn shortest(n: usize) {
+    if 65535 < n {
+        return;
+    }
+    let mut space = [0u8; 3];
+    let p = put_length(&mut space, 0, n as u16);
+    show::bytes(&space[..p]);
+}
+
+// A case of a form of numbers, which are written back into as many bytes.
+fn numeral(line: &[u8], s: &[u8]) {
+    if starts(line, b"boolean") {
+        return element::number(Form::Boolean, 0x01, s, s.len());
+    }
+    if starts(line, b"integer") {
+        return element::number(Form::Integer, 0x02, s, s.len());
+    }
+    if starts(line, b"enumerated") {
+        return element::number(Form::Integer, 0x0a, s, s.len());
+    }
+    if starts(line, b"bits") {
+        return element::number(Form::Bits, 0x03, s, s.len());
+    }
+    show::word(b"unknown word");
+}
+
+// A case of another form, or one of numbers.
+fn valued(line: &[u8], s: &[u8]) {
+    if starts(line, b"octets") {
+        return element::read(Form::Octets, 0x04, s);
+    }
+    if starts(line, b"null") {
+        return element::read(Form::Null, 0x05, s);
+    }
+    if starts(line, b"text") {
+        return element::read(Form::Text, 0x0c, s);
+    }
+    if starts(line, b"time") {
+        return element::read(Form::Time, 0x18, s);
+    }
+    numeral(line, s);
+}
+
+// The tags that may not occur in CIAInfo's rest.
+const KEPT_OUT: [u8; 3] = [0x04, 0x0c, 0x80];
+
+// A case of elements, or of one value.
+fn case(line: &[u8], s: &[u8]) {
+    if starts(line, b"header") {
+        return show::head(header(s, 0, s.len()));
+    }
+    if starts(line, b"sealed") {
+        return show::run(sealed(s, 0, s.len(), 16, &s[..0]));
+    }
+    if starts(line, b"rest") {
+        return show::run(sealed(s, 0, s.len(), 16, &KEPT_OUT));
+    }
+    valued(line, s);
+}
+
+// The bytes of a case, and the case.
+fn decoded(line: &[u8], from: usize) {
+    let mut buf = [0u8; 70000];
+    let n = hex::decode(line, from, &mut buf);
+    case(line, &buf[..n]);
+}
+
+// Named bits, written back into so much room.
+fn roomy(line: &[u8], room: Number) {
+    let mut buf = [0u8; 16];
+    let from = room.next;
+    let n = hex::decode(line, from, &mut buf);
+    element::number(Form::Bits, 0x03, &buf[..n], room.value);
+}
+
+// A line as it is, and for a case the answer.
+fn one(line: &[u8]) {
+    show::word(line);
+    if line.len() == 0 {
+        return;
+    }
+    if line[0] == b'#' {
+        return;
+    }
+    show::word(b" = ");
+    let from = after(line);
+    if starts(line, b"length") {
+        let n = decimal(line, from);
+        return shortest(n.value);
+    }
+    if starts(line, b"room") {
+        return roomy(line, decimal(line, from));
+    }
+    decoded(line, from);
+}
+
+fn line_end(s: &[u8], from: usize) -> usize
+    requires { ⌜ from ≤ length (now s) ⌝ }
+    ensures { λ r. ⌜ (from ≤ r) × (r ≤ length (now (s .entry))) ⌝ }
+{
+    let mut i = from;
+    while i < s.len() {
+        if s[i] == b'\n' {
+            return i;
+        }
+        i += 1;
+    }
+    i
+}
+
+// Every line in turn.
+pub fn lines(s: &[u8]) {
+    let mut i = 0;
+    while i < s.len() {
+        let e = line_end(s, i);
+        one(&s[i..e]);
+        show::word(b"\n");
+        i = e + 1;
+    }
+}
