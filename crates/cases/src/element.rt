@@ -29,7 +29,7 @@ fn put_value(f: Form, out: &mut [u8], negative: bool, m: u32) -> usize
 fn back(f: Form, tag: u8, negative: bool, m: u32, out: &mut [u8]) {
     let mut contents = [0u8; 5];
     let n = put_value(f, &mut contents, negative, m);
-    let p = put_header(out, 0, tag, n as u16);
+    let p = put_header(out, 0, tag, n);
     let q = put_part(out, p, &contents, 0, n);
     show::word(b" back ");
     show::bytes(out);

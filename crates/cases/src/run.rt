@@ -41,11 +41,8 @@ fn after(line: &[u8]) -> usize
 
 // The shortest length field of the number.
 fn shortest(n: usize) {
-    if 65535 < n {
-        return;
-    }
     let mut space = [0u8; 3];
-    let p = put_length(&mut space, 0, n as u16);
+    let p = put_length(&mut space, 0, n);
     show::bytes(&space[..p]);
 }
 

@@ -1,18 +1,17 @@
 -- The loop of `magnitude`: the bytes before i came to v.
-use Prim.Native.Nat.{ℕ, suc, _+_, _*_, _≤_, _<_}
-use mathlib.Core.Path.{_≡_, refl, sym, ap, _∙_}
+use Prim.Native.Nat.{ℕ, _+_, _*_, _≤_, _<_}
+use mathlib.Core.Path.{_≡_, refl, sym, _∙_}
 use mathlib.Core.List.{List, [], _∷_}
 use mathlib.Core.Bool.{Bool, true, false}
 use native.Mathlib.Omega.{arith}
 use native.Mathlib.Nat.{le-trans}
 use native.Mathlib.Numerals.{add-one}
 use lib.ListN.{length, getD, drop}
-use lib.Seq.{drop-cons, drop-length}
+use lib.Seq.{drop-cons}
 use lib.ListN.{drop-of-length-le}
 use lib.Dec.{ltb}
 use borrow.Author.Tests.{le-ltb, ltb-false}
 use Rattle.elements.specs.ChoiceLaws.{by-pick}
-use Rattle.elements.specs.declared.answer.Value.{Value}
 use Rattle.elements.specs.declared.answer.Value.the-variants.{Of}
 use Rattle.elements.specs.Integer.{most, least, digit, bare, big, beyond, magnitude}
 

@@ -1,7 +1,7 @@
 -- "Named-bit strings: unused bits zero, trailing zero bits removed (none set is 03 01 00), at most 32 bits; named bit i becomes 2^i in the book."
 use Prim.Native.Nat.{ℕ, zero, suc, _+_, _-_, _*_, _/_, _%_, _^_}
 use mathlib.Core.List.{List, [], _∷_}
-use mathlib.Core.Bool.{Bool, true, false}
+use mathlib.Core.Bool.{false}
 use lib.ListN.{length, getD, drop}
 use lib.Dec.{ltb, leb, eqb}
 use lib.Count.{leadingZeros}

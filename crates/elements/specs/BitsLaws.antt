@@ -1,4 +1,4 @@
--- Laws of a BIT STRING's contents. Assumes nothing.
+-- Laws of a BIT STRING's contents.
 use mathlib.Core.Path.{_≡_}
 use mathlib.Core.List.{List, [], _∷_}
 use Prim.Native.Nat.{ℕ, suc, _+_, _*_, _^_, _≤_, _<_}

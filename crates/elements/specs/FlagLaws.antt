@@ -1,20 +1,19 @@
 -- Named bits: what is read is the encoding of a flag word, and every such encoding is read.
 use Prim.Native.Nat.{ℕ, zero, suc, _+_, _-_, _*_, _/_, _%_, _^_, _≤_, _<_}
-use mathlib.Core.Path.{_≡_, refl, sym, ap, _∙_, subst}
-use mathlib.Core.List.{List, [], _∷_, _++_}
+use mathlib.Core.Path.{_≡_, refl, sym, ap, _∙_}
+use mathlib.Core.List.{List, [], _∷_}
 use mathlib.Core.Bool.{Bool, true, false, _&&_}
 use native.Mathlib.Omega.{arith}
 use native.Mathlib.Nat.{pow-succ', pow-le-pow-right}
 use lib.Pow.{pow-add}
-use lib.ListN.{length, getD, drop}
-use lib.Count.{leadingZeros, leading-top, leading-unique, leading-of-zero}
+use lib.ListN.{length, getD}
+use lib.Count.{leadingZeros, leading-top, leading-unique}
 use lib.Dec.{ltb, leb, eqb, T, eqb→eq}
-use borrow.Author.Tests.{ltb-true, ltb-false, leb-true, leb-false, eqb-true, eqb-false, lt-ltb, le-ltb, le-leb, lt-leb, eq-eqb, ne-eqb}
+use borrow.Author.Tests.{ltb-true, ltb-false, leb-true, eqb-true, eqb-false, lt-ltb, le-ltb, le-leb, ne-eqb}
 use Rattle.elements.specs.Lists.{Bytes}
-use Rattle.elements.specs.Choice.{pick}
+use Rattle.elements.specs.ChoiceLaws.{all-both, both-true}
 use Rattle.elements.specs.Says.{Says, wrong, says, by-test, said}
-use Rattle.elements.specs.declared.answer.Value.{Value}
-use Rattle.elements.specs.declared.answer.Value.the-variants.{Of, Wrong}
+use Rattle.elements.specs.declared.answer.Value.the-variants.{Of}
 use Rattle.elements.specs.Bits.{reversed, weigh, bitsOf, bits, width, flagRun, flagBytes}
 use Rattle.elements.specs.declared.answer.Form.the-variants as form
 use Rattle.elements.specs.Encodings.{Encodes}
@@ -25,20 +24,12 @@ abbrev every : ℕ → (ℕ → Bool) → Bool
 every zero p = true
 every (suc n) p = p n && every n p
 
-and-left : (a b : Bool) → T (a && b) → T a
-and-left true b t = tt
-and-left false b t = t
-
-and-right : (a b : Bool) → T (a && b) → T b
-and-right true b t = t
-and-right false b t = absurd t
-
 at : (n : ℕ) (p : ℕ → Bool) → T (every n p) → (i : ℕ) → i < n → T (p i)
 at zero p t i h = absurd (omega arith)
-at (suc n) p t i h = go (at n p (and-right (p n) (every n p) t) i) (eqb i n) refl
+at (suc n) p t i h = go (at n p (all-both (p n) (every n p) t .1) i) (eqb i n) refl
   where
     go : (i < n → T (p i)) → (b : Bool) → eqb i n ≡ b → T (p i)
-    go ih true e = rw (eqb-true i n e) (and-left (p n) (every n p) t)
+    go ih true e = rw (eqb-true i n e) (all-both (p n) (every n p) t .0)
     go ih false e = ih (omega (arith, eqb-false i n e))
 
 same : Bool → Bool → Bool
@@ -79,11 +70,11 @@ module _ (u b : ℕ) (h : u < 8) (k : b < 256) where
 
   reversed-closes : closes u b ≡ topped (7 - u) (reversed b)
   unfolding turned
-  reversed-closes = same-is (closes u b) (topped (7 - u) (reversed b)) (and-right (eqb (reversed (reversed b)) b) (same (closes u b) (topped (7 - u) (reversed b))) table)
+  reversed-closes = same-is (closes u b) (topped (7 - u) (reversed b)) (all-both (eqb (reversed (reversed b)) b) (same (closes u b) (topped (7 - u) (reversed b))) table .1)
 
 twice : (b : ℕ) → b < 256 → reversed (reversed b) ≡ b
 unfolding turned
-twice b k = eqb→eq (reversed (reversed b)) b (and-left (eqb (reversed (reversed b)) b) (same (closes 0 b) (topped (7 - 0) (reversed b))) (table 0 b (omega arith) k))
+twice b k = eqb→eq (reversed (reversed b)) b (all-both (eqb (reversed (reversed b)) b) (same (closes 0 b) (topped (7 - 0) (reversed b))) (table 0 b (omega arith) k) .0)
 
 -- the highest bit of w is bit e
 record Top (e w : ℕ) : Type 0 where
@@ -93,19 +84,10 @@ record Top (e w : ℕ) : Type 0 where
 both : {a b : Bool} → a ≡ true → b ≡ true → (a && b) ≡ true
 both p q = rw (p, q)
 
-left-true : (a b : Bool) → (a && b) ≡ true → a ≡ true
-left-true true b e = refl
-left-true false b e = e
-
-right-true : (a b : Bool) → (a && b) ≡ true → b ≡ true
-right-true true b e = e
-right-true false b e = absurd (let z : _≡_ {A = Bool} false true = e in no-true z)
-  where
-    no-true : _≡_ {A = Bool} false true → ⊥
-    no-true z = subst T (sym z) tt
-
 top-of : (e w : ℕ) → topped e w ≡ true → Top e w
-top-of e w t = record { from = leb-true (2 ^ e) w (left-true (leb (2 ^ e) w) (ltb w (2 * 2 ^ e)) t); to = ltb-true w (2 * 2 ^ e) (right-true (leb (2 ^ e) w) (ltb w (2 * 2 ^ e)) t) }
+top-of e w t =
+    let b = both-true (leb (2 ^ e) w) (ltb w (2 * 2 ^ e)) t in
+    record { from = leb-true (2 ^ e) w (b .0); to = ltb-true w (2 * 2 ^ e) (b .1) }
 
 top-topped : {e w : ℕ} → Top e w → topped e w ≡ true
 top-topped {e} {w} t = both (le-leb (2 ^ e) w (t .from)) (lt-ltb w (2 * 2 ^ e) (t .to))
@@ -212,9 +194,8 @@ run-back (suc k) u e w h q t =
 read-closed : (u x : ℕ) (l : List ℕ) → u < 8 → closes u (getD (x ∷ l) (length l) 0) ≡ true → length l ≤ 3 → bits (u ∷ x ∷ l) ≡ Of false (weigh (x ∷ l))
 unfolding bits bitsOf
 read-closed u x l h c k =
-    let a : eqb (getD (x ∷ l) (length l) 0 % 2 ^ u) 0 ≡ true = left-true (eqb (getD (x ∷ l) (length l) 0 % 2 ^ u) 0) (eqb (getD (x ∷ l) (length l) 0 / 2 ^ u % 2) 1) c in
-    let b : eqb (getD (x ∷ l) (length l) 0 / 2 ^ u % 2) 1 ≡ true = right-true (eqb (getD (x ∷ l) (length l) 0 % 2 ^ u) 0) (eqb (getD (x ∷ l) (length l) 0 / 2 ^ u % 2) 1) c in
-    rw (ne-eqb (length (u ∷ x ∷ l)) 0 (omega arith), le-ltb 7 u (omega arith), ne-eqb (length (u ∷ x ∷ l)) 1 (omega arith), last-at u x l, a, b, le-leb ((length (u ∷ x ∷ l) - 1) * 8 - u) 32 (omega arith))
+    let b = both-true (eqb (getD (x ∷ l) (length l) 0 % 2 ^ u) 0) (eqb (getD (x ∷ l) (length l) 0 / 2 ^ u % 2) 1) c in
+    rw (ne-eqb (length (u ∷ x ∷ l)) 0 (omega arith), le-ltb 7 u (omega arith), ne-eqb (length (u ∷ x ∷ l)) 1 (omega arith), last-at u x l, b .0, b .1, le-leb ((length (u ∷ x ∷ l) - 1) * 8 - u) 32 (omega arith))
 
 top-read : (j w : ℕ) → j < 32 → Top j w → bits (flagBytes w) ≡ Of false w
 unfolding flagRun

@@ -1,8 +1,8 @@
 -- "Tags" and "Lengths" of document 01. A position is an offset into the whole dump; a container ends at `end`.
 -- Places of 3 and 4 are the element's first byte; 5 is the container's end.
-use Prim.Native.Nat.{ℕ, zero, suc, _+_, _-_, _*_, _/_, _%_}
-use mathlib.Core.List.{List, []}
-use lib.ListN.{length, getD}
+use Prim.Native.Nat.{ℕ, zero, suc, _+_, _-_, _*_, _%_}
+use mathlib.Core.List.{List}
+use lib.ListN.{getD}
 use lib.Dec.{ltb, leb, eqb}
 use Rattle.elements.specs.Choice.{pick, choose}
 use Rattle.elements.specs.declared.fault.Fault.the-variants.{BadTag, CutTag, BadLength, CutLength, LongLength, Missing}

@@ -65,9 +65,9 @@ len2 : (n : ℕ) → 128 ≤ n → n < 256 → shortest n ≡ 129 ∷ n ∷ []
 unfolding shortest
 len2 n h g = rw (le-ltb n 128 h, lt-ltb n 256 g) refl
 
-len3 : (n : ℕ) → 256 ≤ n → shortest n ≡ 130 ∷ (n / 256) ∷ (n % 256) ∷ []
+len3 : (n : ℕ) → 256 ≤ n → n ≤ 65535 → shortest n ≡ 130 ∷ (n / 256) ∷ (n % 256) ∷ []
 unfolding shortest
-len3 n h = rw (le-ltb n 128 (omega arith), le-ltb n 256 h) refl
+len3 n h g = let d : n / 256 % 256 ≡ n / 256 = omega arith in rw (le-ltb n 128 (omega arith), le-ltb n 256 h, d) refl
 
 module _ (s : List ℕ) (at end : ℕ) where
   here : {f : Fault} → Ok s at end (No f at)
@@ -137,7 +137,7 @@ module _ (s : List ℕ) (at end : ℕ) where
                 cons s p r (omega arith) (omega arith),
                 cons s q r (omega arith) (omega arith),
                 one s (q + 1) (omega arith),
-                len3 n (ltb-false n 256 w),
+                len3 n (ltb-false n 256 w) (omega (arith, c q, c (q + 1))),
               );
         })) λ _. here
 
@@ -294,7 +294,7 @@ module _ (s : List ℕ) (at end b : ℕ) (k : end ≤ length s) where
       let z : p + 1 + 1 ≡ q = omega (arith, ends s (p + 1 + 1) q (omega arith) (f2 .rest)) in
       simp (lt-leb end p (omega arith), f .first, lt-leb end (p + 1) (omega arith), f2 .first, le-ltb n 128 m, z, fitted-is q n h))
       (λ l.
-      let f : Begins s p q 130 (n / 256 ∷ n % 256 ∷ []) = begins s p q (omega arith) (e ∙ len3 n l) in
+      let f : Begins s p q 130 (n / 256 ∷ n % 256 ∷ []) = begins s p q (omega arith) (e ∙ len3 n l g) in
       let f2 : Begins s (p + 1) q (n / 256) (n % 256 ∷ []) = begins s (p + 1) q (omega arith) (f .rest) in
       let f3 : Begins s (p + 1 + 1) q (n % 256) [] = begins s (p + 1 + 1) q (omega arith) (f2 .rest) in
       let z : p + 1 + 2 ≡ q = omega (arith, ends s (p + 1 + 1 + 1) q (omega arith) (f3 .rest)) in

@@ -16,11 +16,12 @@ most = 4294967295
 abbrev pub least : ℕ → ℕ → ℕ
 least m n = pick (ltb m n) m n
 
--- two's complement: minus v - 1 has the complement of v's bytes
+-- in two's complement the bytes of -1 - w are those of w, each complemented
 abbrev pub digit : Bool → ℕ → ℕ
 digit false x = x
 digit true x = 255 - x
 
+-- the bytes of w
 unfoldable pub bare : Bool → List ℕ → List ℕ
 bare n [] = []
 bare n (x ∷ l) = digit n x ∷ bare n l
@@ -30,6 +31,7 @@ unfoldable pub big : ℕ → List ℕ → ℕ
 big v [] = v
 big v (x ∷ l) = big (v * 256 + x) l
 
+-- so a negative number's magnitude is one more than w
 abbrev pub beyond : Bool → ℕ
 beyond false = 0
 beyond true = 1
@@ -53,7 +55,7 @@ integer c =
     (pick (padded (getD c 0 0) (getD c 1 0)) (Wrong BadInteger)
     (whole c)))
 
--- the way back: the fewest bytes of w that leave the first bit clear, complemented where the number is negative; k bounds the bytes
+-- the way back: the fewest bytes of w that leave the first bit clear, complemented where the number is negative; k bounds the recursion
 unfoldable pub spreadBy : ℕ → Bool → ℕ → List ℕ
 spreadBy zero n w = digit n w ∷ []
 spreadBy (suc k) n w = choose (ltb w 128) (λ _. digit n w ∷ []) (λ _. spreadBy k n (w / 256) ++ (digit n (w % 256) ∷ []))

@@ -6,14 +6,13 @@ use mathlib.Core.Bool.{Bool, true, false}
 use native.Mathlib.Omega.{arith}
 use lib.ListN.{length, getD}
 use lib.Seq.{append-snoc}
-use lib.Dec.{ltb, leb, eqb}
-use borrow.Author.Tests.{ltb-true, ltb-false, leb-true, leb-false, eqb-true, eqb-false, lt-ltb, le-ltb, le-leb, lt-leb, eq-eqb, ne-eqb}
+use lib.Dec.{ltb, eqb}
+use borrow.Author.Tests.{ltb-true, ltb-false, leb-false, eqb-true, eqb-false, lt-ltb, le-ltb, lt-leb, ne-eqb}
 use Rattle.elements.specs.Lists.{Bytes}
 use Rattle.elements.specs.Choice.{pick}
 use Rattle.elements.specs.ChoiceLaws.{by-pick}
 use Rattle.elements.specs.Says.{Says, wrong, says, by-test, said}
-use Rattle.elements.specs.declared.answer.Value.{Value}
-use Rattle.elements.specs.declared.answer.Value.the-variants.{Of, Wrong}
+use Rattle.elements.specs.declared.answer.Value.the-variants.{Of}
 use Rattle.elements.specs.Integer.{most, least, digit, bare, big, beyond, magnitude, whole, padded, integer, spread, integerBytes}
 use Rattle.elements.specs.SpreadLaws.{spread-small, spread-more}
 use Rattle.elements.specs.Encodings.{Whole}

@@ -5,9 +5,9 @@ use lib.ListN.{length}
 use lib.Dec.{ltb}
 use Rattle.elements.specs.Choice.{pick}
 
--- the shortest length field of n, for n to 65,535
+-- the shortest length field of n, for n to 65,535; bytes for every n
 unfoldable pub shortest : ℕ → List ℕ
-shortest n = pick (ltb n 128) (n ∷ []) (pick (ltb n 256) (129 ∷ n ∷ []) (130 ∷ n / 256 ∷ n % 256 ∷ []))
+shortest n = pick (ltb n 128) (n ∷ []) (pick (ltb n 256) (129 ∷ n ∷ []) (130 ∷ n / 256 % 256 ∷ n % 256 ∷ []))
 
 -- an element of a low tag
 unfoldable pub wrap : ℕ → List ℕ → List ℕ

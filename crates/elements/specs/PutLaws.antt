@@ -1,4 +1,4 @@
--- Laws of storing into a lent slice. Assumes nothing.
+-- Laws of storing into a lent slice.
 use mathlib.Core.Path.{_≡_, refl, sym, ap, _∙_}
 use mathlib.Core.List.{List, [], _∷_, _++_}
 use Prim.Native.Nat.{ℕ, suc, _+_, _≤_}
@@ -56,3 +56,7 @@ put-empty {b} {o} {p} {x} f = f .to ∙ none x o
     none : (x : List ℕ) (o : ℕ) → sets [] o x ≡ []
     none [] o = refl
     none (a ∷ x) o = none x (suc o)
+
+-- any two results that a put allows are equal
+pub put-same : {a b c : List ℕ} {o p q : ℕ} {x : List ℕ} → Put a b o p x → Put a c o q x → (b ≡ c) × (p ≡ q)
+put-same f g = (f .to ∙ sym (g .to), f .at ∙ sym (g .at))

@@ -1,4 +1,4 @@
--- Laws of the book's records. Assumes nothing.
+-- Laws of the book's records.
 use mathlib.Core.Path.{_≡_}
 use mathlib.Core.List.{List, _++_}
 use Prim.Native.Nat.{ℕ, _+_, _-_, _≤_}

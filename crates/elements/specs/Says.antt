@@ -1,6 +1,6 @@
 -- What is known of a value that was read: E holds of it.
 use Prim.Native.Nat.{ℕ}
-use mathlib.Core.Path.{_≡_, refl, subst}
+use mathlib.Core.Path.{_≡_, subst}
 use mathlib.Core.Bool.{Bool, true, false}
 use Rattle.elements.specs.Choice.{pick}
 use Rattle.elements.specs.ChoiceLaws.{by-pick}

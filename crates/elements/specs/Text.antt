@@ -1,13 +1,13 @@
 -- "UTF8String is well formed": RFC 3629, section 4, its alternatives in its order.
-use Prim.Native.Nat.{ℕ, zero, suc, _+_, _-_}
+use Prim.Native.Nat.{ℕ, _+_, _-_}
 use mathlib.Core.List.{List, [], _∷_}
-use mathlib.Core.Bool.{Bool, true, false, _&&_}
+use mathlib.Core.Bool.{Bool, _&&_}
 use lib.Dec.{ltb, leb, eqb}
-use Rattle.elements.specs.Choice.{pick, choose}
+use Rattle.elements.specs.Choice.{pick}
 use Rattle.elements.specs.Told.{told}
 use Rattle.elements.specs.declared.fault.Fault.the-variants.{BadText}
 use Rattle.elements.specs.declared.answer.Value.{Value}
-use Rattle.elements.specs.declared.answer.Value.the-variants.{Of, Wrong}
+use Rattle.elements.specs.declared.answer.Value.the-variants.{Wrong}
 use Rattle.elements.specs.declared.text.Due.{Due}
 use Rattle.elements.specs.declared.text.Next.{Next}
 use Rattle.elements.specs.declared.text.Next.the-variants.{Then, Never}
@@ -20,19 +20,31 @@ due k l h = record { more = k; low = l; high = h }
 abbrev pub from : ℕ → ℕ → ℕ → Bool
 from l h b = leb l b && leb b h
 
--- the first byte of a character
+-- first bytes from l to h leave d due
+pub data Row : Type 0 where
+  row : ℕ → ℕ → Due → Row
+
+-- UTF8-1, UTF8-2, UTF8-3 (four alternatives), UTF8-4 (three)
+abbrev pub rows : List Row
+rows =
+    row 0x00 0x7f (due 0 0 0) ∷
+    row 0xc2 0xdf (due 1 0x80 0xbf) ∷
+    row 0xe0 0xe0 (due 2 0xa0 0xbf) ∷
+    row 0xe1 0xec (due 2 0x80 0xbf) ∷
+    row 0xed 0xed (due 2 0x80 0x9f) ∷
+    row 0xee 0xef (due 2 0x80 0xbf) ∷
+    row 0xf0 0xf0 (due 3 0x90 0xbf) ∷
+    row 0xf1 0xf3 (due 3 0x80 0xbf) ∷
+    row 0xf4 0xf4 (due 3 0x80 0x8f) ∷
+    []
+
+unfoldable pub find : List Row → ℕ → Next
+find [] b = Never
+find (row l h d ∷ r) b = pick (from l h b) (Then d) (find r b)
+
+-- the first byte of a character: the first alternative that it begins
 unfoldable pub leadOf : ℕ → Next
-leadOf b =
-    pick (from 0x00 0x7f b) (Then (due 0 0 0))
-    (pick (from 0xc2 0xdf b) (Then (due 1 0x80 0xbf))
-    (pick (from 0xe0 0xe0 b) (Then (due 2 0xa0 0xbf))
-    (pick (from 0xe1 0xec b) (Then (due 2 0x80 0xbf))
-    (pick (from 0xed 0xed b) (Then (due 2 0x80 0x9f))
-    (pick (from 0xee 0xef b) (Then (due 2 0x80 0xbf))
-    (pick (from 0xf0 0xf0 b) (Then (due 3 0x90 0xbf))
-    (pick (from 0xf1 0xf3 b) (Then (due 3 0x80 0xbf))
-    (pick (from 0xf4 0xf4 b) (Then (due 3 0x80 0x8f))
-    Never))))))))
+leadOf b = find rows b
 
 -- a byte where d is due; UTF8-tail = %x80-BF
 unfoldable pub stepOf : Due → ℕ → Next

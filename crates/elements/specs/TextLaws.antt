@@ -9,44 +9,23 @@ use native.Mathlib.Nat.{add-zero, zero-add}
 use native.Mathlib.Omega.{arith}
 use lib.ListN.{length, length-append}
 use Rattle.elements.specs.Choice.{pick}
-use Rattle.elements.specs.Lists.{Bytes}
+use Rattle.elements.specs.ChoiceLaws.{by-less, all-both}
 use Rattle.elements.specs.Integer.{least, most}
 use Rattle.elements.specs.Told.{told}
 use Rattle.elements.specs.Encodings.{Scalar, below, above, Scalars, none, more, utf8, utf8s, Characters}
 use Rattle.elements.specs.declared.fault.Fault.the-variants.{BadText}
 use Rattle.elements.specs.declared.answer.Value.{Value}
 use Rattle.elements.specs.declared.answer.Value.the-variants.{Of, Wrong}
-use Rattle.elements.specs.Text.{due, from, leadOf, stepOf, starts, textFrom, text}
+use Rattle.elements.specs.Text.{due, Row, row, rows, find, leadOf, stepOf, starts, textFrom, text}
 use Rattle.elements.specs.declared.text.Due.{Due}
 use Rattle.elements.specs.declared.text.Next.{Next}
 use Rattle.elements.specs.declared.text.Next.the-variants.{Then, Never}
 
--- ---- the alternatives of a first byte as a table
-pub data Row : Type 0 where
-  row : ℕ → ℕ → Due → Row
-
-unfoldable find : List Row → ℕ → Next
-find [] b = Never
-find (row l h d ∷ r) b = pick (from l h b) (Then d) (find r b)
-
-abbrev pub rows : List Row
-rows =
-    row 0x00 0x7f (due 0 0 0) ∷ row 0xc2 0xdf (due 1 0x80 0xbf) ∷ row 0xe0 0xe0 (due 2 0xa0 0xbf) ∷ row 0xe1 0xec (due 2 0x80 0xbf)
-    ∷ row 0xed 0xed (due 2 0x80 0x9f) ∷ row 0xee 0xef (due 2 0x80 0xbf) ∷ row 0xf0 0xf0 (due 3 0x90 0xbf) ∷ row 0xf1 0xf3 (due 3 0x80 0xbf)
-    ∷ row 0xf4 0xf4 (due 3 0x80 0x8f) ∷ []
-
-rows-are : (b : ℕ) → find rows b ≡ leadOf b
-unfolding find leadOf
-rows-are b = refl
-
+-- ---- the alternatives of a first byte
 -- no row begins or ends inside m to n
 abbrev pub level : List Row → ℕ → ℕ → Bool
 level [] m n = true
 level (row l h d ∷ r) m n = (leb l m || ltb n l) && ((ltb h m || leb n h) && level r m n)
-
-both : (s t : Bool) → T (s && t) → T s × T t
-both true t h = (tt, h)
-both false t h = absurd h
 
 lower : (l m n b : ℕ) → T (leb l m || ltb n l) → m ≤ b → b ≤ n → leb l b ≡ leb l m
 lower l m n b h p q = go (leb l m) refl h
@@ -66,13 +45,14 @@ finds : (r : List Row) (m n b : ℕ) → T (level r m n) → m ≤ b → b ≤ n
 unfolding find
 finds [] m n b t p q = refl
 finds (row l h d ∷ r) m n b t p q =
-    let s = both (leb l m || ltb n l) _ t in
-    let u = both (ltb h m || leb n h) _ (s .1) in
+    let s = all-both (leb l m || ltb n l) _ t in
+    let u = all-both (ltb h m || leb n h) _ (s .1) in
     rw (lower l m n b (s .0) p q, upper h m n b (u .0) p q, finds r m n b (u .1) p q)
 
 -- where no alternative begins or ends inside m to n, each byte there is a first byte as m is
 pub leads : (m n b : ℕ) → T (level rows m n) → m ≤ b → b ≤ n → leadOf b ≡ leadOf m
-leads m n b t p q = sym (rows-are b) ∙ finds rows m n b t p q ∙ rows-are m
+unfolding leadOf
+leads m n b t p q = finds rows m n b t p q
 
 -- ---- a character: a first byte and those that it asks
 data Tails : ℕ → ℕ → ℕ → List ℕ → Type 0 where
@@ -102,13 +82,6 @@ unfolding textFrom stepOf starts
 char-read n r (char e t) = rw (e, textFrom) (tails-read (n + 1) r t)
 
 -- ---- from a scalar value to its bytes
-split : {P : Type 0} (u n : ℕ) → (u < n → P) → (n ≤ u → P) → P
-split {P} u n f g = go (ltb u n) refl
-  where
-    go : (t : Bool) → ltb u n ≡ t → P
-    go true e = f (ltb-true u n e)
-    go false e = g (ltb-false u n e)
-
 -- how many bytes a scalar value takes, and which
 size1 : (u : ℕ) → u < 0x80 → utf8 u ≡ u ∷ []
 unfolding utf8
@@ -138,16 +111,16 @@ module _ (u m n l h : ℕ) (same : T (level rows m n)) where
 
 -- the bytes of a scalar value are a character
 encoded : {u : ℕ} → Scalar u → Char (utf8 u)
-unfolding leadOf
+unfolding leadOf find
 encoded {u} (below s) =
-    split u 0x80 (λ a. rw (size1 u a) (char (leads 0x00 0x7f u tt (omega arith) (omega arith)) end))
-    (λ a. split u 0x800 (λ b. rw (size2 u a b) (char (leads 0xc2 0xdf (0xc0 + u / 64) tt (omega arith) (omega arith)) (six u end)))
-    (λ b. split u 0x1000 (λ d. three u 0xe0 0xe0 0xa0 0xbf tt refl (omega arith))
-    (λ d. split u 0xd000 (λ f. three u 0xe1 0xec 0x80 0xbf tt refl (omega arith)) (λ f. three u 0xed 0xed 0x80 0x9f tt refl (omega arith)))))
+    by-less u 0x80 (λ a. rw (size1 u a) (char (leads 0x00 0x7f u tt (omega arith) (omega arith)) end))
+    (λ a. by-less u 0x800 (λ b. rw (size2 u a b) (char (leads 0xc2 0xdf (0xc0 + u / 64) tt (omega arith) (omega arith)) (six u end)))
+    (λ b. by-less u 0x1000 (λ d. three u 0xe0 0xe0 0xa0 0xbf tt refl (omega arith))
+    (λ d. by-less u 0xd000 (λ f. three u 0xe1 0xec 0x80 0xbf tt refl (omega arith)) (λ f. three u 0xed 0xed 0x80 0x9f tt refl (omega arith)))))
 encoded {u} (above s t) =
-    split u 0x10000 (λ a. three u 0xee 0xef 0x80 0xbf tt refl (omega arith))
-    (λ a. split u 0x40000 (λ b. four u 0xf0 0xf0 0x90 0xbf tt refl (omega arith))
-    (λ b. split u 0x100000 (λ d. four u 0xf1 0xf3 0x80 0xbf tt refl (omega arith)) (λ d. four u 0xf4 0xf4 0x80 0x8f tt refl (omega arith))))
+    by-less u 0x10000 (λ a. three u 0xee 0xef 0x80 0xbf tt refl (omega arith))
+    (λ a. by-less u 0x40000 (λ b. four u 0xf0 0xf0 0x90 0xbf tt refl (omega arith))
+    (λ b. by-less u 0x100000 (λ d. four u 0xf1 0xf3 0x80 0xbf tt refl (omega arith)) (λ d. four u 0xf4 0xf4 0x80 0x8f tt refl (omega arith))))
 
 texts : {us : List ℕ} (n : ℕ) → Scalars us → textFrom (due 0 0 0) n (utf8s us) ≡ told (n + length us)
 unfolding textFrom utf8s
@@ -244,8 +217,8 @@ tails zero l h n c e = split-at c end (sym (rests l h n c) ∙ e)
 tails (suc k) l h n [] e = let z : _≡_ {A = ℕ} 0 1 = cc (ne-eqb (suc k) 0 (omega arith)) in absurd (omega arith)
 tails (suc k) l h n (x ∷ c) e =
     let a = ne-eqb (suc k) 0 (omega arith) in
-    split x l (λ p. absurd (refused (due (suc k) l h) x n c (rw (a, lt-ltb x l p)) e))
-    (λ p. split h x (λ q. absurd (refused (due (suc k) l h) x n c (rw (a, le-ltb x l p, lt-ltb h x q)) e))
+    by-less x l (λ p. absurd (refused (due (suc k) l h) x n c (rw (a, lt-ltb x l p)) e))
+    (λ p. by-less h x (λ q. absurd (refused (due (suc k) l h) x n c (rw (a, le-ltb x l p, lt-ltb h x q)) e))
     (λ q. more-of (tails k 0x80 0xbf n c (rw (due-step k l h x p q, textFrom, a, add-zero) at e)) (λ bs. tail x p q)))
 
 chars : (n : ℕ) {s : Bool} {m : ℕ} (b : ℕ) (c : List ℕ) → textFrom (due 0 0 0) n (b ∷ c) ≡ Of s m → Split Char (n + 1) (Of s m) (b ∷ c)
@@ -264,9 +237,9 @@ record Spelt (n : ℕ) (v : Value) (c : List ℕ) : Type 0 where
   says : told (n + length scalars) ≡ v
 
 spelt-on : {n : ℕ} {v : Value} {c : List ℕ} → Split Char (n + 1) v c → ((r : List ℕ) → length r < length c → textFrom (due 0 0 0) (n + 1) r ≡ v → Spelt (n + 1) v r) → Spelt n v c
-unfolding utf8s
+unfolding utf8s leadOf
 spelt-on {n} (split-at r (char {b} {k} {l} {h} {bs} e t) w) on =
-    let d = decoded (among rows b (due k l h) (rows-are b ∙ e)) t in
+    let d = decoded (among rows b (due k l h) e) t in
     let q = on r (omega (arith, length-append bs r)) w in
     let i : n + suc (length (q .scalars)) ≡ n + 1 + length (q .scalars) = omega arith in
     record { scalars = d .u ∷ q .scalars; each = more (d .scalar) (q .each); bytes = rw (← d .is, ← q .bytes); says = rw i (q .says) }
@@ -281,9 +254,9 @@ spelt zero n c h e = absurd (omega arith)
 spelt (suc k) n c h e = spelt-from n c e (λ r l f. spelt k (n + 1) r (omega arith) f)
 
 -- contents that are read as text are the encoding of scalar values, and so many
-pub text-sound : (c : List ℕ) → Bytes c → {n : Bool} {m : ℕ} → text c ≡ Of n m → (n ≡ false) × Characters c m
+pub text-sound : (c : List ℕ) {n : Bool} {m : ℕ} → text c ≡ Of n m → (n ≡ false) × Characters c m
 unfolding text told
-text-sound c bytes {n} {m} e =
+text-sound c {n} {m} e =
     let q = spelt (suc (length c)) 0 c (omega arith) e in
     let f : Of false (least (length (q .scalars)) most) ≡ Of n m = rw zero-add at (q .says) in
     (cc, record { scalars = q .scalars; each = q .each; bytes = q .bytes; count = cc })

@@ -2,14 +2,14 @@
 use Prim.Native.Nat.{ℕ, zero, suc, _+_, _-_, _*_, _/_, _%_, _≤_, _<_}
 use mathlib.Core.Path.{_≡_, refl, sym, _∙_, ap}
 use mathlib.Core.List.{List, [], _∷_, _++_}
-use mathlib.Core.Bool.{Bool, true, false, _&&_}
+use mathlib.Core.Bool.{Bool, true, false}
 use lib.ListN.{length, getD, drop, drop-of-length-le}
 use lib.Seq.{drop-cons}
 use lib.Dec.{leb, ltb, eqb, lit≤}
 use borrow.Author.Tests.{le-leb, lt-leb, ne-eqb, le-ltb, leb-true, leb-false, ltb-false, eqb-true, eqb-false}
 use native.Mathlib.Omega.{arith}
 use Rattle.elements.specs.Choice.{pick}
-use Rattle.elements.specs.Lists.{Bytes}
+use Rattle.elements.specs.ChoiceLaws.{both-true}
 use Rattle.elements.specs.Time.{isDigit, digits, two, daysOf, dated, clocked, stated, time}
 use Rattle.elements.specs.Encodings.{pair, Moment}
 use Rattle.elements.specs.declared.fault.Fault.the-variants.{BadTime}
@@ -78,10 +78,6 @@ unless : (t a : Bool) → pick t false a ≡ true → (t ≡ false) × (a ≡ tr
 unless true a e = let z : _≡_ {A = ℕ} 0 1 = cc in absurd (omega arith)
 unless false a e = (refl, e)
 
-and : (t a : Bool) → (t && a) ≡ true → (t ≡ true) × (a ≡ true)
-and true a e = (refl, e)
-and false a e = let z : _≡_ {A = ℕ} 0 1 = cc in absurd (omega arith)
-
 -- the k bytes from i on
 abbrev members : ℕ → ℕ → List ℕ → List ℕ
 members zero i c = []
@@ -97,7 +93,7 @@ digit-at zero i c e h = absurd (omega arith)
 digit-at (suc k) i [] e h = let z : _≡_ {A = ℕ} 0 1 = cc in absurd (omega arith)
 digit-at (suc k) zero (x ∷ c) e h =
     let f = both (isDigit x) (digits k c) e in
-    let g = and (leb 48 x) (leb x 57) (f .0) in
+    let g = both-true (leb 48 x) (leb x 57) (f .0) in
     (leb-true 48 x (g .0), leb-true x 57 (g .1))
 digit-at (suc k) (suc i) (x ∷ c) e h = digit-at k i c (both (isDigit x) (digits k c) e .1) (omega arith)
 
@@ -163,9 +159,9 @@ moment c e =
     }
 
 -- a time that is read is exactly YYYYMMDDhhmmssZ of a day of the calendar
-pub time-sound : (c : List ℕ) → Bytes c → {n : Bool} {m : ℕ} → time c ≡ Of n m → (n ≡ false) × (m ≡ 0) × Moment c
+pub time-sound : (c : List ℕ) {n : Bool} {m : ℕ} → time c ≡ Of n m → (n ≡ false) × (m ≡ 0) × Moment c
 unfolding time
-time-sound c bytes {n} {m} e = go (stated c) refl e
+time-sound c {n} {m} e = go (stated c) refl e
   where
     go : (t : Bool) → stated c ≡ t → pick t (Of false 0) (Wrong BadTime) ≡ Of n m → (n ≡ false) × (m ≡ 0) × Moment c
     go true f g = (cc, cc, moment c f)

@@ -1,16 +1,15 @@
 -- One law over the form: a value is read of contents if and only if they are its encoding.
 use Prim.Native.Nat.{ℕ, zero, suc, _<_}
-use mathlib.Core.Path.{_≡_, refl, sym, _∙_}
+use mathlib.Core.Path.{_≡_, refl}
 use mathlib.Core.List.{List, [], _∷_}
 use mathlib.Core.Bool.{Bool, false}
 use native.Mathlib.Omega.{arith}
-use lib.ListN.{length, getD}
+use lib.ListN.{length}
 use lib.Dec.{eqb}
-use borrow.Author.Tests.{eqb-true, eqb-false, ne-eqb}
+use borrow.Author.Tests.{eqb-true, ne-eqb}
 use Rattle.elements.specs.Lists.{Bytes}
 use Rattle.elements.specs.declared.answer.Form.{Form}
 use Rattle.elements.specs.declared.answer.Form.the-variants as form
-use Rattle.elements.specs.declared.answer.Value.{Value}
 use Rattle.elements.specs.declared.answer.Value.the-variants.{Of}
 use Rattle.elements.specs.Boolean.{boolean, booleanBytes}
 use Rattle.elements.specs.Told.{told}
@@ -52,8 +51,8 @@ value-sound form.Boolean c b e = said (boolean-says c) e
 value-sound form.Integer c b e = integer-sound c b e
 value-sound form.Bits c b e = bits-sound c b e
 value-sound form.Null c b e = said (null-says c) e
-value-sound form.Text c b e = text-sound c b e
-value-sound form.Time c b e = time-sound c b e
+value-sound form.Text c b e = text-sound c e
+value-sound form.Time c b e = time-sound c e
 value-sound form.Octets c b e = said (octets-says c) e
 
 -- and every encoding is read, as its value

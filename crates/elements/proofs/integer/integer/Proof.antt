@@ -1,7 +1,6 @@
 use mathlib.Core.Path.{sym, _∙_}
 use Rattle.elements.specs.Integer.{integer}
 use Rattle.elements.proofs.Auto.{tests}
-use native.Mathlib.Omega.{arith}
 use borrow.Author.Needs.{needs}
 use Rattle.elements.proofs.integer.integer.Statement.{statement}
 use Rattle.elements.proofs.integer.integer.Tie as tie

@@ -1,6 +1,5 @@
 use Rattle.elements.specs.Integer.{whole}
 use Rattle.elements.proofs.Auto.{tests}
-use native.Mathlib.Omega.{arith}
 use borrow.Author.Needs.{needs}
 use Rattle.elements.proofs.integer.whole.Statement.{statement}
 use Rattle.elements.proofs.integer.whole.Tie as tie

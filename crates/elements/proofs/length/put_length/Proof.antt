@@ -18,7 +18,7 @@ returns-2 : tie.Need-returns-2
 unfolding shortest
 returns-2 c = (omega arith, search (put-then, tests, needs))
 
-long : (n : ℕ) → 256 ≤ n → 130 ∷ n / 256 ∷ n % 256 ∷ [] ≡ shortest n
+long : (n : ℕ) → 256 ≤ n → 130 ∷ n / 256 % 256 ∷ n % 256 ∷ [] ≡ shortest n
 unfolding shortest
 long n h = rw (le-ltb n 128 (omega arith), le-ltb n 256 h)
 

@@ -1,12 +1,12 @@
 use mathlib.Core.Path.{sym, _∙_}
 use borrow.Author.Needs.{needs}
 use Rattle.elements.specs.TextLaws.{leads}
-use Rattle.elements.specs.Text.{leadOf}
+use Rattle.elements.specs.Text.{find, leadOf}
 use Rattle.elements.proofs.text.lead.Statement.{statement}
 use Rattle.elements.proofs.text.lead.Tie as tie
 
 pub lead-spec : {M : Type 1} → statement M
-unfolding leadOf
+unfolding leadOf find
 lead-spec =
     tie.close
     (tie.spec

@@ -1,7 +1,5 @@
 use Rattle.elements.specs.Values.{null}
 use Rattle.elements.proofs.Auto.{tests}
-use borrow.Author.Needs.{needs}
-use native.Mathlib.Omega.{arith}
 use Rattle.elements.proofs.value.null.Statement.{statement}
 use Rattle.elements.proofs.value.null.Tie as tie
 

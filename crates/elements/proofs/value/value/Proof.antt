@@ -1,6 +1,5 @@
 use Rattle.elements.specs.Values.{value}
 use borrow.Author.Needs.{needs}
-use native.Mathlib.Omega.{arith}
 use Rattle.elements.proofs.value.value.Statement.{statement}
 use Rattle.elements.proofs.value.value.Tie as tie
 

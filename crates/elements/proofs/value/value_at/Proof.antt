@@ -2,7 +2,6 @@ use mathlib.Core.Path.{sym, ap, _∙_}
 use Rattle.elements.specs.Values.{placed, value}
 use Rattle.elements.specs.Lists.{lent}
 use borrow.Author.Needs.{needs}
-use native.Mathlib.Omega.{arith}
 use Rattle.elements.proofs.value.value_at.Statement.{statement}
 use Rattle.elements.proofs.value.value_at.Tie as tie
 
