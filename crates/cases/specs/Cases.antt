@@ -14,6 +14,8 @@ use Rattle.elements.specs.Integer.{integer, whole, padded, magnitude, bare, big
 use Rattle.elements.specs.Bits.{bits, bitsOf, weigh, reversed}
 use Rattle.elements.specs.Time.{time, stated, digits, two, dated, clocked, daysOf, leap}
 use Rattle.elements.specs.Values.{value, element}
+use Rattle.layouts.specs.Computing.{Seen, book, refusal, reading as dumped, conditionOf}
+use Rattle.layouts.specs.Examples.{shared}
 
 -- an answer as document 01 gives it
 pub data Answer : Type 0 where
@@ -22,42 +24,56 @@ pub data Answer : Type 0 where
   minus : ℕ → ℕ → Answer
   -- a refusal's number and place
   refused : ℕ → ℕ → Answer
+  -- a dump that is accepted, with the bytes of its book
+  accepted : ℕ → Answer
 
 abbrev answer : Read → Answer
 answer (Took false m e) = is m e
 answer (Took true m e) = minus m e
 answer (Refused f p) = refused (numberOf f) p
 
+abbrev shown : Seen → Answer
+shown (book b) = accepted (length b)
+shown (refusal n p) = refused n p
+
 -- reading one element of a tag and a form at the start of the bytes
 unfoldable reading : Form → ℕ → List ℕ → Answer
 unfolding element value header highTag further lengthAt long1 long2 long2Of fitted integer whole padded magnitude bare big bits bitsOf weigh reversed time stated digits two dated clocked daysOf leap
 reading f tag s = answer (element f tag s 0 (length s))
 
-pub record Case : Type 0 where
+pub data Name : Type 0 where
   -- the number behind the P
-  pub name : ℕ
+  P : ℕ → Name
+  -- the shared dump
+  Shared : Name
+
+pub record Case : Type 0 where
+  pub name : Name
   pub got : Answer
   pub want : Answer
 
-abbrev p : ℕ → Answer → Answer → Case
-p n g w = record { name = n; got = g; want = w }
+abbrev case : Name → Answer → Answer → Case
+case n g w = record { name = n; got = g; want = w }
 
 pub table : List Case
-unfolding reading
+unfolding reading dumped conditionOf
 table =
-    p 1 (reading Bits 0x03 (0x03 ∷ 0x02 ∷ 0x07 ∷ 0x80 ∷ [])) (is 1 4) ∷
-    p 2 (reading Bits 0x03 (0x03 ∷ 0x03 ∷ 0x06 ∷ 0x20 ∷ 0x40 ∷ [])) (is 516 5) ∷
-    p 3 (reading Bits 0x03 (0x03 ∷ 0x02 ∷ 0x03 ∷ 0x98 ∷ [])) (is 25 4) ∷
-    p 4 (reading Bits 0x03 (0x03 ∷ 0x02 ∷ 0x05 ∷ 0x80 ∷ [])) (refused 6 0) ∷
-    p 5 (reading Integer 0x02 (0x02 ∷ 0x02 ∷ 0x00 ∷ 0xff ∷ [])) (is 255 4) ∷
-    p 6 (reading Integer 0x02 (0x02 ∷ 0x01 ∷ 0x00 ∷ 0xff ∷ [])) (is 0 3) ∷
-    p 7 (reading Integer 0x02 (0x02 ∷ 0x02 ∷ 0x00 ∷ 0x7f ∷ [])) (refused 6 0) ∷
+    case (P 1) (reading Bits 0x03 (0x03 ∷ 0x02 ∷ 0x07 ∷ 0x80 ∷ [])) (is 1 4) ∷
+    case (P 2) (reading Bits 0x03 (0x03 ∷ 0x03 ∷ 0x06 ∷ 0x20 ∷ 0x40 ∷ [])) (is 516 5) ∷
+    case (P 3) (reading Bits 0x03 (0x03 ∷ 0x02 ∷ 0x03 ∷ 0x98 ∷ [])) (is 25 4) ∷
+    case (P 4) (reading Bits 0x03 (0x03 ∷ 0x02 ∷ 0x05 ∷ 0x80 ∷ [])) (refused 6 0) ∷
+    case (P 5) (reading Integer 0x02 (0x02 ∷ 0x02 ∷ 0x00 ∷ 0xff ∷ [])) (is 255 4) ∷
+    case (P 6) (reading Integer 0x02 (0x02 ∷ 0x01 ∷ 0x00 ∷ 0xff ∷ [])) (is 0 3) ∷
+    case (P 7) (reading Integer 0x02 (0x02 ∷ 0x02 ∷ 0x00 ∷ 0x7f ∷ [])) (refused 6 0) ∷
+    case (P 8) (shown (conditionOf (0xa1 ∷ 0x02 ∷ 0x05 ∷ 0x00 ∷ []))) (refused 5 4) ∷
+    case (P 9) (shown (dumped [])) (refused 2 0) ∷
     -- 20000229000000Z holds, 19000229000000Z does not
-    p 10 (reading Time 0x18 (0x18 ∷ 0x0f ∷ 50 ∷ 48 ∷ 48 ∷ 48 ∷ 48 ∷ 50 ∷ 50 ∷ 57 ∷ 48 ∷ 48 ∷ 48 ∷ 48 ∷ 48 ∷ 48 ∷ 90 ∷ [])) (is 0 17) ∷
-    p 10 (reading Time 0x18 (0x18 ∷ 0x0f ∷ 49 ∷ 57 ∷ 48 ∷ 48 ∷ 48 ∷ 50 ∷ 50 ∷ 57 ∷ 48 ∷ 48 ∷ 48 ∷ 48 ∷ 48 ∷ 48 ∷ 90 ∷ [])) (refused 6 0) ∷
+    case (P 10) (reading Time 0x18 (0x18 ∷ 0x0f ∷ 50 ∷ 48 ∷ 48 ∷ 48 ∷ 48 ∷ 50 ∷ 50 ∷ 57 ∷ 48 ∷ 48 ∷ 48 ∷ 48 ∷ 48 ∷ 48 ∷ 90 ∷ [])) (is 0 17) ∷
+    case (P 10) (reading Time 0x18 (0x18 ∷ 0x0f ∷ 49 ∷ 57 ∷ 48 ∷ 48 ∷ 48 ∷ 50 ∷ 50 ∷ 57 ∷ 48 ∷ 48 ∷ 48 ∷ 48 ∷ 48 ∷ 48 ∷ 90 ∷ [])) (refused 6 0) ∷
+    case Shared (shown (dumped shared)) (accepted 126) ∷
     []
 
 -- every case is answered as document 01 says
 pub all-hold : map (λ c. c .got) table ≡ map (λ c. c .want) table
-unfolding table reading
+unfolding table reading dumped conditionOf
 all-hold = refl

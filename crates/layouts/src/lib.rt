@@ -1,0 +1,6 @@
+// The layouts of document 01: what a dump means, and its book.
+mod table;
+
+pub use table::Class;
+pub use table::Need;
+pub use table::Row;

@@ -1,0 +1,26 @@
+use elements::Form;
+
+// A component is required ("?" is missing), optional ("?"), or has a default.
+pub enum Need {
+    Required,
+    Optional,
+    Default(u32),
+}
+
+// A component of a sequence: its tag, its record's kind, its form, whether it must be there, the bounds of its value or length.
+pub struct Row {
+    pub tag: u8,
+    pub kind: u16,
+    pub form: Form,
+    pub need: Need,
+    pub low: u32,
+    pub high: u32,
+}
+
+// What the objects of an EF.OD entry are.
+pub enum Class {
+    Keys,
+    Certificates,
+    Containers,
+    Authentications,
+}
