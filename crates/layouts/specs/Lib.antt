@@ -23,3 +23,5 @@ pub mod DumpLaws
 pub mod ByteLaws
 pub mod WriteLaws
 pub mod FuelLaws
+pub mod Refusals
+pub mod CheckLaws

@@ -145,7 +145,7 @@ count-le16 v h = omega arith
 module _ (s : List ℕ) (bytes : (i : ℕ) → getD s i 0 < 256) (small : length s ≤ 32768) where
   pub path-law : BodyLaw s (path s) rPath pathLook
   unfolding path rPath
-  path-law at a e h i l = paired-ok at (omega arith) (closed s bytes (rows-law s bytes pathRows tt) e a i l)
+  path-law at a e h i l = paired-ok _ (omega arith) (closed s bytes (rows-law s bytes pathRows tt) e a i l)
 
   -- one record for an element
   pub single : (q : Renderer) (L : Look) (kind : ℕ) (p : List ℕ) (end at e : ℕ) → T (memb kind (L .first) && not (L .full)) → T (ltb kind 65536) → length p ≤ length s + 4 → at ≤ e → e ≤ end → 4 + length p ≤ 4 * (e - at) →

@@ -21,7 +21,7 @@ use Rattle.elements.specs.Lists.{Bytes}
 use Rattle.layouts.specs.ByteLaws.{candidate-bytes}
 use Rattle.layouts.specs.DumpLaws.{round, bound, laid-out, equal-is}
 
-equal-self : (l : List ℕ) → equal l l ≡ true
+pub equal-self : (l : List ℕ) → equal l l ≡ true
 equal-self [] = refl
 equal-self (x ∷ l) = rw (eq-eqb x x refl) (equal-self l)
 
