@@ -7,6 +7,8 @@ use lib.ListN.{length}
 use Rattle.elements.specs.declared.fault.Fault.{Fault}
 use Rattle.elements.specs.Lists.{Bytes}
 use Rattle.layouts.specs.Files.{refused, readDump}
+use Rattle.layouts.specs.Book.{records}
+use Rattle.layouts.specs.Render.{render}
 use Rattle.layouts.specs.Write.{Written, written, noBook, writeDump}
 use Rattle.layouts.specs.Meaning.{Has, AcceptedBook}
 use Rattle.layouts.specs.WriteLaws as laws
@@ -36,6 +38,10 @@ pub none-if-refused : {b : List ℕ} → writeDump b ≡ noBook → AcceptedBook
 none-if-refused e a =
     let w = read-then-written (a .has) in
     let z : _≡_ {A = ℕ} 0 1 = cc in omega arith
+
+-- so a book is accepted if and only if reading its candidate gives it
+pub candidate : {b : List ℕ} → AcceptedBook b → Has (render (records b)) b
+candidate {b} a = rw (laws.written-is b (a .dump) (read-then-written (a .has))) (a .has)
 
 -- no two accepted dumps have one book
 pub one-dump : {d e b : List ℕ} → Has d b → Has e b → d ≡ e
