@@ -1,0 +1,176 @@
+"""Random cases and dumps, whole and damaged, against what we proved: see README.md."""
+import os
+import random
+import subprocess
+import sys
+from cases import printed
+from dumps import named_file, read, record
+from elements import TAGS, length
+
+SHARP = [0x00, 0x01, 0x1F, 0x30, 0x7F, 0x80, 0x81, 0x82, 0x8F, 0x90, 0x9F, 0xA0, 0xBF, 0xC2, 0xE0, 0xED, 0xF0, 0xF4, 0xFF]
+some = random.choice
+
+
+def chance(p):
+    return random.random() < p
+
+
+def loose(n):
+    return bytes(some([random.randrange(256), some(SHARP)]) for _ in range(n))
+
+
+def tlv(tag, *parts):
+    c = b''.join(parts)
+    return bytes([tag]) + length(len(c)) + c
+
+
+# ---- cases for crates/cases
+
+def nested(deep=0):
+    tag = some([bytes([some([2, 3, 4, 5, 0x30, 0x30, 0xA0, 0xA1, 0x80, 0x0C, 0x24, 0x20])]), bytes([some([0x1F, 0x3F, 0xBF, 0xFF])]) + loose(some([1, 2, 3])), loose(1)])
+    c = b''
+    while tag[0] & 0x20 and deep < 20 and len(c) < 60 and chance(.6):
+        c += nested(deep + 1)
+    c = (c or loose(random.randrange(4)))[:120]
+    return tag + (length(len(c)) if chance(.9) else loose(some([1, 2, 3]))) + c
+
+
+def moment():
+    return b'%04d%02d%02d%02d%02d%02dZ' % (some([0, 1900, 2000, 2004, 2015, 2100, random.randrange(10000)]), random.randrange(14), some([random.randrange(33), 28, 29, 30, 31]),
+                                           random.randrange(26), random.randrange(62), random.randrange(62))
+
+
+def characters():
+    ranges = [(0, 0x80), (0x80, 0x800), (0x800, 0xD800), (0xE000, 0x10000), (0x10000, 0x110000)]
+    return ''.join(chr(random.randrange(*some(ranges))) for _ in range(random.randrange(6))).encode()
+
+
+def line():
+    word = some(['header', 'sealed', 'rest'] + list(TAGS))
+    if word in ('sealed', 'rest'):
+        s = b''.join(nested() for _ in range(random.randrange(4)))
+    elif word == 'header':
+        s = nested()
+    else:
+        c = loose(some([0, 1, 1, 2, 2, 3, 4, 5, 6, 15]))
+        if word == 'time' and chance(.9):
+            c = moment()
+        if word == 'text' and chance(.6):
+            c = bytearray(characters())
+            if c and chance(.3):
+                c[random.randrange(len(c))] = random.randrange(256)
+        s = tlv(TAGS[word], bytes(c))
+    return (word + ' ' + s.hex().upper()).rstrip()
+
+
+def compare_elements(rounds):
+    program = os.path.join(os.path.dirname(os.path.abspath(__file__)), '..', 'target', 'bin', 'cases')
+    count = 0
+    for seed in range(rounds):
+        random.seed(seed)
+        text = ''
+        while len(text) < 60000:
+            text += line() + '\n'
+        got = subprocess.run([program], input=text.encode(), capture_output=True, check=True).stdout.decode()
+        want = printed(text)
+        if got != want:
+            sys.exit(next('seed %d: %s, and not %s' % (seed, g, w) for g, w in zip(got.split('\n'), want.split('\n')) if g != w))
+        count += text.count('\n')
+    print('%d cases, no difference' % count)
+
+
+# ---- dumps
+
+def condition(deep):
+    if deep == 0 or chance(.25):
+        return tlv(0x05)
+    if chance(.25):
+        return tlv(0x04, loose(random.randrange(3)))
+    if chance(.15):
+        return tlv(0xA0, condition(deep - 1))
+    if chance(.8):
+        return tlv(some([0xA1, 0xA2]), *[condition(deep - 1) for _ in range(some([2, 2, 3, 1]))])
+    return tlv(0x86, b'\x01\x02')
+
+
+def maybe(p, *parts):
+    return b''.join(parts) if chance(p) else b''
+
+
+def common():
+    rules = [tlv(0x30, tlv(0x03, b'\x07\x80'), condition(some([1, 2, 3, 9])), maybe(.2, tlv(0x02, b'\x05'))) for _ in range(random.randrange(3))]
+    return tlv(0x30, maybe(.5, tlv(0x0C, b'KEY')), maybe(.5, tlv(0x03, b'\x07\x80')), maybe(.6, tlv(0x04, bytes([random.randrange(3)]))), maybe(.3, tlv(0x02, bytes([random.randrange(4)]))),
+               maybe(.5, tlv(0x30, *rules)), maybe(.2, tlv(0x0A, b'\x01')))
+
+
+def card_object(entry):
+    path = tlv(0x30, tlv(0x04, b'\x4B\x01'), some([b'', b'', tlv(0x02, b'\x40') + tlv(0x80, b'\x30'), tlv(0x02, b'\x40')]))
+    if entry <= 0xA3:
+        kind = tlv(0x04, b'\x45') + tlv(0x03, b'\x07\x80') + maybe(.3, tlv(0x01, some([b'\x00', b'\xff']))) + maybe(.3, tlv(0x03, b'\x03\x98')) + maybe(.3, tlv(0x02, b'\x05')) + maybe(.2, tlv(0x80, b'20000229000000Z'))
+        own = tlv(0x30, path, tlv(0x02, b'\x04\x00'), maybe(.3, tlv(0x05)))
+    elif entry <= 0xA6:
+        kind = tlv(0x04, b'\x45') + some([b'', tlv(0x01, b'\xff'), tlv(0x01, b'\x00')])
+        own = tlv(0x30, some([path, tlv(0xA1, tlv(0x05)), tlv(0x0C, b'A')]), maybe(.3, tlv(0x05)))
+    elif entry == 0xA7:
+        kind, own = maybe(.5, tlv(0x0C, b'APP')), path
+    else:
+        kind = maybe(.7, tlv(0x04, bytes([random.randrange(4)]))) + maybe(.3, tlv(0x02, b'\x01')) + maybe(.3, tlv(0x80, b'\x05'))
+        own = tlv(0x30, tlv(0x03, some([b'\x02\x2C', b'\x00\xC3'])), tlv(0x0A, b'\x01'), tlv(0x02, b'\x04'), tlv(0x02, b'\x08'), maybe(.3, tlv(0x02, b'\x01\x00')), maybe(.3, tlv(0x80, some([b'\x01', b'\x00']))),
+                  maybe(.3, tlv(0x04, b'\xff')), maybe(.3, path))
+    return tlv(some([0x30] * 5 + [0xA0, 0xA3, 0xA7, 0xA8]), common(), tlv(0x30, kind), maybe(.3, tlv(0xA0, tlv(0x30, tlv(0x05)))), tlv(0xA1, own))
+
+
+def whole():
+    entries, files = [], []
+    for _ in range(random.randrange(4)):
+        tag = some([0xA0, 0xA1, 0xA4, 0xA7, 0xA8, 0xA8, 0x83, 0xAF])
+        objects = [card_object(tag) for _ in range(random.randrange(3))] if tag in range(0xA0, 0xA9) else []
+        if tag in (0x83, 0xAF):
+            entries.append(tlv(tag, tlv(0x05)))
+        elif chance(.5):
+            entries.append(tlv(tag, tlv(0xA0, *objects)))
+        else:
+            path = bytes([0x44, random.randrange(6)])
+            entries.append(tlv(tag, tlv(0x30, tlv(0x04, path))))
+            files.append(named_file(path, b''.join(objects) + some([b'', b'', b'\x00\x00', b'\xff' * 3, b'\x00\x01'])))
+    info = tlv(0x30, tlv(0x02, b'\x01'), tlv(0x03, b'\x00'))
+    return record(1, info + some([b'', b'\x00\x00', b'\xff'])) + record(2, b''.join(entries) + maybe(.3, b'\x00')) + b''.join(files)
+
+
+def damaged(d):
+    d = bytearray(d)
+    for _ in range(some([1, 1, 2])):
+        i = random.randrange(len(d))
+        if chance(.6):
+            d[i] = some([some(SHARP), (d[i] + 1) % 256, (d[i] - 1) % 256])
+        elif chance(.6) and len(d) > 1:
+            del d[i]
+        else:
+            d = d[:i + 1]
+    return bytes(d)
+
+
+def listed(b):
+    return '(%s)' % ' ∷ '.join(['0x%02x' % x for x in b] + ['[]'])
+
+
+def state_dumps(count):
+    random.seed(count)
+    print('use mathlib.Core.Path.{_≡_, refl}\nuse mathlib.Core.List.{List, [], _∷_}\nuse Rattle.layouts.specs.Computing.{book, refusal, reading, rendering}')
+    made = 0
+    while made < count:
+        d = whole()
+        if chance(.55):
+            d = damaged(d)
+        if len(d) > 260:
+            continue
+        made += 1
+        answer = read(d)
+        says = 'book ' + listed(answer[1]) if answer[0] == 'book' else 'refusal %d %d' % answer[1:]
+        print('\nread%d : reading %s ≡ %s\nunfolding reading\nread%d = refl' % (made, listed(d), says, made))
+        if answer[0] == 'book':
+            print('\nback%d : rendering %s ≡ %s\nunfolding rendering\nback%d = refl' % (made, listed(answer[1]), listed(d), made))
+
+
+if __name__ == '__main__':
+    {'elements': compare_elements, 'dumps': state_dumps}[sys.argv[1]](int(sys.argv[2]))
