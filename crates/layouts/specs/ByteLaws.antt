@@ -8,7 +8,7 @@ use lib.Dec.{ltb, leb, eqb, T, ltb→lt}
 use borrow.Author.Tests.{ltb-true}
 use Rattle.elements.specs.Choice.{choose}
 use Rattle.layouts.specs.Reading.{Rec, memb, count, number}
-use Rattle.elements.specs.ChoiceLaws.{by-pick, by-less}
+use Rattle.elements.specs.ChoiceLaws.{by-choose, by-pick, by-less}
 use Rattle.elements.specs.Boolean.{booleanBytes}
 use Rattle.elements.specs.Integer.{digit, spread, integerBytes}
 use Rattle.elements.specs.SpreadLaws.{spread-small, spread-more}
@@ -115,8 +115,7 @@ within-b : {q : Renderer} (t : ℕ) → t < 256 → Outs q → Outs (within t q)
 within-b {q} t h f rs g = let x = f rs g in out (wrap-b t (q rs .bytes) h (x .bytes)) (x .left)
 
 out-test : (t : Bool) {x y : Unit {0} → Rendered} → ((u : Unit {0}) → Out (x u)) → ((u : Unit {0}) → Out (y u)) → Out (choose t x y)
-out-test true f g = f tt
-out-test false f g = g tt
+out-test t f g = by-choose Out t (λ u _. f u) (λ u _. g u)
 
 when-b : {q : Renderer} (ks : List ℕ) → Outs q → Outs (when ks q)
 when-b ks f [] h = out tt tt

@@ -9,7 +9,6 @@ use lib.ListN.{length, getD, length-append}
 use lib.Seq.{slice, slice-empty, length-slice, take-length, take-at}
 use lib.Dec.{ltb, leb, eqb, T, eqb→eq}
 use borrow.Author.Tests.{ltb-false, leb-true, eqb-true}
-use Rattle.elements.specs.Choice.{choose}
 use Rattle.elements.specs.declared.fault.Fault.{Fault}
 use Rattle.layouts.specs.Reading.{Rec, Res, took, fails, also}
 use Rattle.layouts.specs.Parts.{counted}
@@ -150,10 +149,6 @@ data ChainOk (s : List ℕ) (at : ℕ) : Files → Type 0 where
   no-chain : {x : Fault} (p : ℕ) → p ≤ length s → ChainOk s at (brokenAt x p)
   chain : {fs : List File} → Chain s at fs → ChainOk s at (files fs)
 
-chain-test : {s : List ℕ} {at : ℕ} (t : Bool) {x y : Unit {0} → Files} → ((u : Unit {0}) → t ≡ true → ChainOk s at (x u)) → ((u : Unit {0}) → t ≡ false → ChainOk s at (y u)) → ChainOk s at (choose t x y)
-chain-test true f g = f tt refl
-chain-test false f g = g tt refl
-
 -- the files follow the path entries
 data Follows (s : List ℕ) : List Name → List File → Type 0 where
   both : Follows s [] []
@@ -202,23 +197,19 @@ module _ (s : List ℕ) (bytes : (i : ℕ) → getD s i 0 < 256) where
 
   chain-ok : (g at : ℕ) → at ≤ length s → ChainOk s at (frames s g at)
   unfolding frames
-  chain-ok zero at h = chain-test (ltb at (length s)) (λ _ _. no-chain at h) (λ _ e. chain (over (omega (arith, ltb-false at (length s) e))))
-  chain-ok (suc g) at h = chain-test (ltb at (length s)) (λ _ _. more-ok h (named-ok s bytes at) (λ n l. chain-ok g n l)) (λ _ e. chain (over (omega (arith, ltb-false at (length s) e))))
+  chain-ok zero at h = by-choose (ChainOk s at) (ltb at (length s)) (λ _ _. no-chain at h) (λ _ e. chain (over (omega (arith, ltb-false at (length s) e))))
+  chain-ok (suc g) at h = by-choose (ChainOk s at) (ltb at (length s)) (λ _ _. more-ok h (named-ok s bytes at) (λ n l. chain-ok g n l)) (λ _ e. chain (over (omega (arith, ltb-false at (length s) e))))
 
   follow-more : {n : Name} {ns : List Name} {f : File} {fs : List File} {c : Check} → n .path ≡ pathOf s f → FollowOk s ns fs c → FollowOk s (n ∷ ns) (f ∷ fs) c
   follow-more e (no-follow p o) = no-follow p o
   follow-more e (follows w) = follows (pair e w)
-
-  follow-test : {ns : List Name} {fs : List File} (t : Bool) {x y : Unit {0} → Check} → ((u : Unit {0}) → t ≡ true → FollowOk s ns fs (x u)) → ((u : Unit {0}) → t ≡ false → FollowOk s ns fs (y u)) → FollowOk s ns fs (choose t x y)
-  follow-test true f g = f tt refl
-  follow-test false f g = g tt refl
 
   follow-ok : (ns : List Name) (fs : List File) → Places (length s) fs → FollowOk s ns fs (follow s ns fs)
   unfolding follow
   follow-ok [] [] h = follows both
   follow-ok [] (f ∷ fs) h = no-follow (f .place) (h .0)
   follow-ok (n ∷ ns) [] h = no-follow (length s) (le-refl (length s))
-  follow-ok (n ∷ ns) (f ∷ fs) h = follow-test (equal (n .path) (pathOf s f)) (λ _ e. follow-more (equal-is (n .path) (pathOf s f) e) (follow-ok ns fs (h .1))) (λ _ _. no-follow (f .place) (h .0))
+  follow-ok (n ∷ ns) (f ∷ fs) h = by-choose (FollowOk s (n ∷ ns) (f ∷ fs)) (equal (n .path) (pathOf s f)) (λ _ e. follow-more (equal-is (n .path) (pathOf s f) e) (follow-ok ns fs (h .1))) (λ _ _. no-follow (f .place) (h .0))
 
   module _ (small : length s ≤ 32768) where
     dir-step : (n : Name) (ns : List Name) (f : File) (at : ℕ) {bs ds : List Rec} {j : ℕ} → n .path ≡ pathOf s f → NamedFrame s at f → Facts s rDirectory directoryLook (f .stop) (f .start) bs j →
@@ -252,10 +243,6 @@ data Good (s : List ℕ) : Answer → Type 0 where
   refuse : {f : Fault} (p : ℕ) → p ≤ length s → Good s (refused f p)
   accept : {rs : List Rec} → render rs ≡ s → size rs ≤ 4 * length s → Laid (length s) rs → length s ≤ 32768 → Good s (accepted rs)
 
-good-test : {s : List ℕ} (t : Bool) {x y : Unit {0} → Answer} → ((u : Unit {0}) → t ≡ true → Good s (x u)) → ((u : Unit {0}) → t ≡ false → Good s (y u)) → Good s (choose t x y)
-good-test true f g = f tt refl
-good-test false f g = g tt refl
-
 module _ (s : List ℕ) (bytes : (i : ℕ) → getD s i 0 < 256) (small : length s ≤ 32768) where
   all-good : (c o : File) → Frame s 1 0 (c .start) (c .stop) → Frame s 2 (c .stop) (o .start) (o .stop) → {bs cs ds : List Rec} {i j : ℕ} →
       Facts s rCia ciaLook (c .stop) (c .start) bs i → Facts s rOd odLook (o .stop) (o .start) cs j →
@@ -276,7 +263,7 @@ module _ (s : List ℕ) (bytes : (i : ℕ) → getD s i 0 < 256) (small : length
       Facts s rCia ciaLook (c .stop) (c .start) bs i → Facts s rOd odLook (o .stop) (o .start) cs j → Good s (readFiles s o fs bs cs ms)
   unfolding readFiles
   files-good c o v w {fs} ch {bs} {cs} ms mk f g =
-      good-test (ltb (firstAgain s [] (namesOf cs)) (length (namesOf cs))) (λ _ _. refuse (entryPlace s (length s) (firstAgain s [] (namesOf cs)) (o .stop) (o .start)) (entry-place s bytes (length s) (firstAgain s [] (namesOf cs)) (o .stop) (o .start) (w .order) (w .stop))) (λ _ _.
+      by-choose (Good s) (ltb (firstAgain s [] (namesOf cs)) (length (namesOf cs))) (λ _ _. refuse (entryPlace s (length s) (firstAgain s [] (namesOf cs)) (o .stop) (o .start)) (entry-place s bytes (length s) (firstAgain s [] (namesOf cs)) (o .stop) (o .start) (w .order) (w .stop))) (λ _ _.
       on-follow (follow-ok s bytes (namesOf cs) fs (chain-places ch)) (λ _ q. on-dirs (dirs-ok s bytes small q ch (length ms)) (directories-marked s bytes (namesOf cs) fs (length ms) (chain-stops ch)) (λ ds ns mn d b z y.
       on-check (repeated-ok (length s) [] 0 (ms ++ ns) (cs ++ ds) (omega arith) (marks-append (length s) ms ns mk mn)) (accept (all-good c o v w f g d b)
       (omega (arith, size-append bs (cs ++ ds), size-append cs ds, f .bound, g .bound, f .low, f .high, g .low, g .high, z, v .start, v .order, w .start, w .order, w .stop)) (laid-append (length s) bs (cs ++ ds) (f .laid) (laid-append (length s) cs ds (g .laid) y)) small))))
@@ -313,7 +300,7 @@ module _ (s : List ℕ) (bytes : (i : ℕ) → getD s i 0 < 256) (small : length
 
 dump-good : (s : List ℕ) → ((i : ℕ) → getD s i 0 < 256) → Good s (readDump s)
 unfolding readDump readParts
-dump-good s bytes = good-test (leb (length s) 32768)
+dump-good s bytes = by-choose (Good s) (leb (length s) 32768)
     (λ _ e. let small : length s ≤ 32768 = leb-true (length s) 32768 e in
     on-frame s bytes small (omega arith) (frame-ok s bytes 1 0) (λ c v.
     on-frame s bytes small (v .stop) (frame-ok s bytes 2 (c .stop)) (λ o w.

@@ -12,6 +12,7 @@ use borrow.Author.Tests.{ltb-true, ltb-false, eqb-true}
 use Rattle.elements.specs.Choice.{choose}
 use Rattle.elements.specs.declared.fault.Fault.{Fault}
 use Rattle.elements.specs.Put.{le16}
+use Rattle.elements.specs.ChoiceLaws.{by-choose}
 use Rattle.layouts.specs.Reading.{Rec, rec, Res, took, fails, also, andThen, _then_, Body, count}
 use Rattle.elements.specs.declared.answer.Head.{Head}
 use Rattle.elements.specs.declared.answer.Head.the-variants.{At, No}
@@ -49,18 +50,13 @@ data Filled (s : List ℕ) (b g at : ℕ) : Res → Type 0 where
   no-fill : {f : Fault} (p : ℕ) → p ≤ length s → Filled s b g at (fails f p)
   fills : (n : ℕ) → n ≡ at + g → slice at n s ≡ replicate g b → Filled s b g at (took [] [] n)
 
-fill-test : {s : List ℕ} {b g at : ℕ} (t : Bool) {x y : Unit {0} → Res} → ((u : Unit {0}) → t ≡ true → Filled s b g at (x u)) → ((u : Unit {0}) → t ≡ false → Filled s b g at (y u)) → Filled s b g at (choose t x y)
-fill-test true f g = f tt refl
-fill-test false f g = g tt refl
-
 -- what is known of the first record
 data Heads (P : Rec → Type 0) : Res → Type 0 where
   no-head : {f : Fault} {p : ℕ} → Heads P (fails f p)
   heads : {b : Rec} {bs : List Rec} {ms : List ℕ} {n : ℕ} → P b → Heads P (took (b ∷ bs) ms n)
 
 heads-test : {P : Rec → Type 0} (t : Bool) {x y : Unit {0} → Res} → ((u : Unit {0}) → t ≡ true → Heads P (x u)) → ((u : Unit {0}) → t ≡ false → Heads P (y u)) → Heads P (choose t x y)
-heads-test true f g = f tt refl
-heads-test false f g = g tt refl
+heads-test {P} t f g = by-choose (Heads P) t f g
 
 heads-also : {P : Rec → Type 0} (b : Rec) (bs : List Rec) (ms : List ℕ) → P b → (r : Res) → Heads P (also (b ∷ bs) ms r)
 heads-also b bs ms h (took cs ns n) = heads h
@@ -109,7 +105,7 @@ module _ (s : List ℕ) (bytes : (i : ℕ) → getD s i 0 < 256) (small : length
   filled-ok : (b g end at : ℕ) → at + g ≤ length s → Filled s b g at (filled s b g end at)
   unfolding filled
   filled-ok b zero end at h = fills at (omega arith) (slice-empty at s)
-  filled-ok b (suc g) end at h = fill-test (eqb (getD s at 0) b)
+  filled-ok b (suc g) end at h = by-choose (Filled s b (suc g) at) (eqb (getD s at 0) b)
       (λ _ e. one-more b g at (omega arith) (eqb-true (getD s at 0) b e) (omega arith) (filled-ok b g end (at + 1) (omega arith)))
       (λ _ _. no-fill at (omega arith))
 

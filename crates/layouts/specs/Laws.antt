@@ -11,6 +11,7 @@ use borrow.Author.Tests.{eqb-true}
 use Rattle.elements.specs.Choice.{choose}
 use Rattle.elements.specs.Lists.{join}
 use Rattle.elements.specs.declared.fault.Fault.{Fault}
+use Rattle.elements.specs.ChoiceLaws.{by-choose}
 use Rattle.layouts.specs.Reading.{Rec, Res, took, fails, also, andThen, _then_, Reader, Body, memb}
 use Rattle.layouts.specs.Render.{gives, Renderer, _next_}
 
@@ -74,8 +75,7 @@ BodyLaw s b q L = (at a e : ℕ) → at < a → a ≤ e → e ≤ length s → O
 -- tests, and small lists of kinds
 pub by-test : {s : List ℕ} {q : Renderer} {L : Look} {end at : ℕ} (t : Bool) {x y : Unit {0} → Res} →
     ((u : Unit {0}) → t ≡ true → Ok s q L end at (x u)) → ((u : Unit {0}) → t ≡ false → Ok s q L end at (y u)) → Ok s q L end at (choose t x y)
-by-test true f g = f tt refl
-by-test false f g = g tt refl
+by-test {s} {q} {L} {end} {at} t f g = by-choose (Ok s q L end at) t f g
 
 pub and-left : (a b : Bool) → T (a && b) → T a
 and-left true b t = tt

@@ -11,6 +11,7 @@ use lib.Dec.{ltb, leb, eqb, ltb→lt}
 use borrow.Author.Tests.{ltb-true}
 use Rattle.elements.specs.Choice.{choose}
 use Rattle.elements.specs.declared.fault.Fault.{Fault}
+use Rattle.elements.specs.ChoiceLaws.{by-choose}
 use Rattle.layouts.specs.Reading.{Rec, rec, Res, took, fails, also, andThen, Reader, Body}
 use Rattle.elements.specs.declared.answer.Head.{Head}
 use Rattle.elements.specs.declared.answer.Head.the-variants.{At, No}
@@ -48,8 +49,7 @@ Stops n (f ∷ fs) = (f .stop ≤ n) × Stops n fs
 
 module _ {n : ℕ} where
   marked-test : (t : Bool) {x y : Unit {0} → Res} → ((u : Unit {0}) → t ≡ true → Marked n (x u)) → ((u : Unit {0}) → t ≡ false → Marked n (y u)) → Marked n (choose t x y)
-  marked-test true f g = f tt refl
-  marked-test false f g = g tt refl
+  marked-test t f g = by-choose (Marked n) t f g
 
   marked-also : (bs : List Rec) (ms : List ℕ) {r : Res} → Marks n ms → Marked n r → Marked n (also bs ms r)
   marked-also bs ms h unmarked = unmarked
@@ -172,8 +172,7 @@ pub data CheckOk (n : ℕ) : Check → Type 0 where
   check-at : {f : Fault} (p : ℕ) → p ≤ n → CheckOk n (wrongAt f p)
 
 check-test : {n : ℕ} (t : Bool) {x y : Unit {0} → Check} → ((u : Unit {0}) → CheckOk n (x u)) → ((u : Unit {0}) → CheckOk n (y u)) → CheckOk n (choose t x y)
-check-test true f g = f tt
-check-test false f g = g tt
+check-test {n} t f g = by-choose (CheckOk n) t (λ u _. f u) (λ u _. g u)
 
 marks-head : (n : ℕ) (ps : List ℕ) → Marks n ps → getD ps 0 0 ≤ n
 marks-head n [] h = omega arith

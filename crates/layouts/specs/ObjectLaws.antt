@@ -10,6 +10,7 @@ use lib.Dec.{ltb, leb, eqb, T, leb→le}
 use borrow.Author.Tests.{ltb-false, eqb-true, ne-eqb}
 use Rattle.elements.specs.Choice.{choose}
 use Rattle.elements.specs.Put.{le16}
+use Rattle.elements.specs.ChoiceLaws.{by-choose}
 use Rattle.layouts.specs.Reading.{Rec, rec, Res, took, fails, also, _then_, Reader, Body, memb, count, number}
 use Rattle.layouts.specs.declared.table.Need.the-variants.{Required, Optional}
 use Rattle.elements.specs.Sealed.{sealedRun}
@@ -48,10 +49,6 @@ module _ {s : List ℕ} {q : Renderer} {L : Look} {end at : ℕ} where
 counts-one : (p : ℕ) (r : Res) → One (counts p r)
 counts-one p (took bs ms n) = one
 counts-one p (fails f x) = not-one
-
-one-test : (t : Bool) {x y : Unit {0} → Res} → ((u : Unit {0}) → t ≡ true → One (x u)) → ((u : Unit {0}) → t ≡ false → One (y u)) → One (choose t x y)
-one-test true f g = f tt refl
-one-test false f g = g tt refl
 
 -- a record in front of what is inside an element
 pub also-map : {s : List ℕ} {q p : Renderer} {L M : Look} {end at e a : ℕ} (b : Rec) (ms : List ℕ) {r : Res} → Ok s q L e a r → ((bs : List Rec) (n : ℕ) → Facts s q L e a bs n → Facts s p M end at (b ∷ bs) n) → Ok s p M end at (also (b ∷ []) ms r)
@@ -166,7 +163,7 @@ module _ (s : List ℕ) (bytes : (i : ℕ) → getD s i 0 < 256) (small : length
 
   condition-one : (l k end at : ℕ) → One (condition s l k end at)
   unfolding condition
-  condition-one zero k end at = one-test (ltb at end) (λ _ _. not-one) (λ _ _. not-one)
+  condition-one zero k end at = by-choose One (ltb at end) (λ _ _. not-one) (λ _ _. not-one)
   condition-one (suc l) k end at = counts-one at (element s (conditionBody s (λ j f n. condition s l j f n) (k + 1)) end at)
 
   module _ (l : ℕ) (inner : ℕ → Reader) (law : (k : ℕ) → Law s (inner k) (rCondition l) condLook) (just : (k end at : ℕ) → One (inner k end at)) where

@@ -2,7 +2,7 @@
 use Prim.Native.Nat.{ℕ}
 use mathlib.Core.Path.{_≡_, refl}
 use mathlib.Core.List.{List, [], _∷_, map}
-use Rattle.layouts.specs.Computing.{Seen, refusal, reading}
+use Rattle.layouts.specs.Computing.{refusal, reading}
 
 pub record Case : Type 0 where
   pub dump : List ℕ

@@ -9,8 +9,8 @@ use lib.ListN.{length, length-append}
 use lib.Seq.{slice}
 use lib.Dec.{ltb, leb, T, leb→le}
 use borrow.Author.Tests.{ltb-false}
-use Rattle.elements.specs.Choice.{choose}
 use Rattle.elements.specs.declared.fault.Fault.{Fault}
+use Rattle.elements.specs.ChoiceLaws.{by-choose}
 use Rattle.layouts.specs.Reading.{Rec, Res, took, fails, also, andThen, Reader}
 use Rattle.layouts.specs.Parts.{repeat, counted, toEnd}
 use Rattle.layouts.specs.Render.{gives, Renderer, _next_, when, rMany, rAll, rTimes}
@@ -34,11 +34,6 @@ many-none ks q (suc m) rs f = when-none ks (q next rMany ks q m) rs f
 data Many (s : List ℕ) (q : Renderer) (L : Look) (u : Bool) (end at : ℕ) : Res → Type 0 where
   stops : {f : Fault} (p : ℕ) → p ≤ length s → Many s q L u end at (fails f p)
   gets : {bs : List Rec} {ms : List ℕ} {n : ℕ} → ((m : ℕ) → length bs ≤ m → Facts s (rMany (L .first) q m) (manyLook u L) end at bs n) → Many s q L u end at (took bs ms n)
-
-many-test : {s : List ℕ} {q : Renderer} {L : Look} {v : Bool} {end at : ℕ} (t : Bool) {x y : Unit {0} → Res} →
-    ((u : Unit {0}) → t ≡ true → Many s q L v end at (x u)) → ((u : Unit {0}) → t ≡ false → Many s q L v end at (y u)) → Many s q L v end at (choose t x y)
-many-test true f g = f tt refl
-many-test false f g = g tt refl
 
 begins-many : {ks : List ℕ} {bs : List Rec} (e : Bool) (cs : List Rec) → Begins ks false bs → Begins ks e (bs ++ cs)
 begins-many e cs (none t) = absurd t
@@ -88,8 +83,8 @@ module _ {s : List ℕ} {q : Renderer} {L : Look} (u : Bool) (more : ℕ → ℕ
 
   many : (g k end at : ℕ) → at ≤ end → end ≤ length s → Many s q L u end at (repeat more f g k end at)
   unfolding repeat
-  many zero k end at h l = many-test (more end at) (λ _ _. stops end l) (λ _ e. many-end end at h e)
-  many (suc g) k end at h l = many-test (more end at) (λ _ _. many-counted (λ c n i j. many g (k + c) end n j l) (item k end at h l)) (λ _ e. many-end end at h e)
+  many zero k end at h l = by-choose (Many s q L u end at) (more end at) (λ _ _. stops end l) (λ _ e. many-end end at h e)
+  many (suc g) k end at h l = by-choose (Many s q L u end at) (more end at) (λ _ _. many-counted (λ c n i j. many g (k + c) end n j l) (item k end at h l)) (λ _ e. many-end end at h e)
 
   pub all : (g k end at : ℕ) → at ≤ end → end ≤ length s → Ok s (rAll (L .first) q) (manyLook u L) end at (repeat more f g k end at)
   unfolding rAll
@@ -135,11 +130,6 @@ pub data Times (s : List ℕ) (q : Renderer) (L : Look) (u : Bool) (end at : ℕ
   no-times : {f : Fault} (p : ℕ) → p ≤ length s → Times s q L u end at (fails f p)
   times : {bs : List Rec} {ms : List ℕ} {n : ℕ} → at + length ms ≤ n → Facts s (rTimes (length ms) q) (timesLook u L) end at bs n → Times s q L u end at (took bs ms n)
 
-times-test : {s : List ℕ} {q : Renderer} {L : Look} {v : Bool} {end at : ℕ} (t : Bool) {x y : Unit {0} → Res} →
-    ((u : Unit {0}) → t ≡ true → Times s q L v end at (x u)) → ((u : Unit {0}) → t ≡ false → Times s q L v end at (y u)) → Times s q L v end at (choose t x y)
-times-test true f g = f tt refl
-times-test false f g = g tt refl
-
 pub paid : {ks : List ℕ} {bs : List Rec} → Begins ks false bs → 0 < size bs
 paid (none t) = absurd t
 paid (some m) = omega arith
@@ -183,5 +173,5 @@ module _ {s : List ℕ} {q : Renderer} {L : Look} (f : ℕ → Reader) (item : (
 
   pub timed : (g k end at : ℕ) → at ≤ end → end ≤ length s → Times s q L true end at (repeat toEnd f g k end at)
   unfolding repeat
-  timed zero k end at h l = times-test (ltb at end) (λ _ _. no-times end l) (λ _ e. times-end end at h e)
-  timed (suc g) k end at h l = times-test (ltb at end) (λ _ _. times-counted (λ c n i j. timed g (k + c) end n j l) (item k end at h l) (just k end at)) (λ _ e. times-end end at h e)
+  timed zero k end at h l = by-choose (Times s q L true end at) (ltb at end) (λ _ _. no-times end l) (λ _ e. times-end end at h e)
+  timed (suc g) k end at h l = by-choose (Times s q L true end at) (ltb at end) (λ _ _. times-counted (λ c n i j. timed g (k + c) end n j l) (item k end at h l) (just k end at)) (λ _ e. times-end end at h e)
