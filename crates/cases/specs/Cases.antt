@@ -14,7 +14,7 @@ use Rattle.elements.specs.Integer.{integer, whole, padded, magnitude, bare, big
 use Rattle.elements.specs.Bits.{bits, bitsOf, weigh, reversed}
 use Rattle.elements.specs.Time.{time, stated, digits, two, dated, clocked, daysOf, leap}
 use Rattle.elements.specs.Values.{value, element}
-use Rattle.layouts.specs.Computing.{Seen, book, refusal, reading as dumped, conditionOf}
+use Rattle.layouts.specs.Computing.{Seen, readsCondition, book, dump, refusal, answered, reading as dumped}
 use Rattle.layouts.specs.Examples.{shared}
 
 -- an answer as document 01 gives it
@@ -34,6 +34,7 @@ answer (Refused f p) = refused (numberOf f) p
 
 abbrev shown : Seen → Answer
 shown (book b) = accepted (length b)
+shown (dump d) = accepted (length d)
 shown (refusal n p) = refused n p
 
 -- reading one element of a tag and a form at the start of the bytes
@@ -56,7 +57,7 @@ abbrev case : Name → Answer → Answer → Case
 case n g w = record { name = n; got = g; want = w }
 
 pub table : List Case
-unfolding reading dumped conditionOf
+unfolding reading answered
 table =
     case (P 1) (reading Bits 0x03 (0x03 ∷ 0x02 ∷ 0x07 ∷ 0x80 ∷ [])) (is 1 4) ∷
     case (P 2) (reading Bits 0x03 (0x03 ∷ 0x03 ∷ 0x06 ∷ 0x20 ∷ 0x40 ∷ [])) (is 516 5) ∷
@@ -65,7 +66,7 @@ table =
     case (P 5) (reading Integer 0x02 (0x02 ∷ 0x02 ∷ 0x00 ∷ 0xff ∷ [])) (is 255 4) ∷
     case (P 6) (reading Integer 0x02 (0x02 ∷ 0x01 ∷ 0x00 ∷ 0xff ∷ [])) (is 0 3) ∷
     case (P 7) (reading Integer 0x02 (0x02 ∷ 0x02 ∷ 0x00 ∷ 0x7f ∷ [])) (refused 6 0) ∷
-    case (P 8) (shown (conditionOf (0xa1 ∷ 0x02 ∷ 0x05 ∷ 0x00 ∷ []))) (refused 5 4) ∷
+    case (P 8) (shown (answered (readsCondition (0xa1 ∷ 0x02 ∷ 0x05 ∷ 0x00 ∷ [])))) (refused 5 4) ∷
     case (P 9) (shown (dumped [])) (refused 2 0) ∷
     -- 20000229000000Z holds, 19000229000000Z does not
     case (P 10) (reading Time 0x18 (0x18 ∷ 0x0f ∷ 50 ∷ 48 ∷ 48 ∷ 48 ∷ 48 ∷ 50 ∷ 50 ∷ 57 ∷ 48 ∷ 48 ∷ 48 ∷ 48 ∷ 48 ∷ 48 ∷ 90 ∷ [])) (is 0 17) ∷
@@ -75,5 +76,5 @@ table =
 
 -- every case is answered as document 01 says
 pub all-hold : map (λ c. c .got) table ≡ map (λ c. c .want) table
-unfolding table reading dumped conditionOf
+unfolding table reading answered
 all-hold = refl

@@ -6,8 +6,8 @@ use mathlib.Core.Bool.{Bool, true, false}
 use native.Mathlib.Numerals.{add-one}
 use lib.ListN.{length, getD, drop, drop-of-length-le}
 use lib.Seq.{drop-cons}
+use borrow.Author.Tests.{eq-eqb, ne-eqb}
 use Rattle.elements.specs.Sealed.{among}
-use Rattle.elements.proofs.Auto.{tests}
 
 -- of the bytes from i on, the answer is still v
 pub record Among (x : ℕ) (bytes : List ℕ) (i : ℕ) (v : Bool) : Type 0 where
@@ -20,15 +20,12 @@ among-start x bytes = record { comes = refl }
 module _ {x : ℕ} {bytes : List ℕ} {i : ℕ} {v : Bool} (w : Among x bytes i v) where
   -- the byte is x
   pub among-found : i < length bytes → getD bytes i 0 ≡ x → true ≡ v
-  unfolding among
-  among-found h e = sym (rw (drop-cons bytes i 0 h) (search tests)) ∙ w .comes
+  among-found h e = sym (rw (drop-cons bytes i 0 h, eq-eqb x (getD bytes i 0) (sym e)) refl) ∙ w .comes
 
   -- the byte is another
   pub among-next : i < length bytes → (getD bytes i 0 ≡ x → ⊥) → Among x bytes (i + 1) v
-  unfolding among
-  among-next h e = record { comes = rw add-one (sym (rw (drop-cons bytes i 0 h) (search tests)) ∙ w .comes) }
+  among-next h e = record { comes = rw add-one (sym (rw (drop-cons bytes i 0 h, ne-eqb x (getD bytes i 0) (λ z. e (sym z))) refl) ∙ w .comes) }
 
   -- no byte is left
   pub among-none : length bytes ≤ i → false ≡ v
-  unfolding among
   among-none h = rw (drop-of-length-le bytes h) at (w .comes)

@@ -2,7 +2,7 @@
 -- Rest means sealed elements after the listed components; the tag of an optional or defaulted component of that sequence may not occur there."
 use Prim.Native.Nat.{ℕ, zero, suc, _-_, _/_, _%_}
 use mathlib.Core.List.{List, [], _∷_}
-use mathlib.Core.Bool.{Bool, true, false}
+use mathlib.Core.Bool.{Bool, false, _||_}
 use lib.Dec.{ltb, eqb}
 use Rattle.elements.specs.Choice.{pick, choose}
 use Rattle.elements.specs.declared.fault.Fault.the-variants.{TooDeep, NotDue}
@@ -14,9 +14,9 @@ use Rattle.elements.specs.Header.{header}
 use Rattle.elements.specs.Loop.{Turn, next, done, loop}
 
 -- x is one of the numbers
-unfoldable pub among : ℕ → List ℕ → Bool
+abbrev pub among : ℕ → List ℕ → Bool
 among x [] = false
-among x (y ∷ l) = pick (eqb y x) true (among x l)
+among x (y ∷ l) = eqb x y || among x l
 
 -- bit 6 of the first tag byte: the contents are elements
 abbrev pub constructed : ℕ → Bool

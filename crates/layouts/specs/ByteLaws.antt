@@ -7,7 +7,12 @@ use lib.ListN.{length, getD, take, drop, replicate}
 use lib.Dec.{ltb, leb, eqb, T, ltb→lt}
 use borrow.Author.Tests.{ltb-true}
 use Rattle.elements.specs.Choice.{choose}
-use Rattle.layouts.specs.Reading.{Rec, memb, count, number}
+use Rattle.elements.specs.Sealed.{among}
+use Rattle.layouts.specs.declared.table.ObjectType.{ObjectType}
+use Rattle.layouts.specs.declared.table.ObjectType.the-variants.{PrivateKey, Certificate, Password, Sealed}
+use Rattle.layouts.specs.declared.table.Sort.{Sort}
+use Rattle.layouts.specs.declared.table.Sort.the-variants.{Always, Identifier, Not, And, Or, Other}
+use Rattle.layouts.specs.Reading.{Rec, count, number}
 use Rattle.elements.specs.ChoiceLaws.{by-choose, by-pick, by-less}
 use Rattle.elements.specs.Boolean.{booleanBytes}
 use Rattle.elements.specs.Integer.{digit, spread, integerBytes}
@@ -20,12 +25,12 @@ use Rattle.elements.specs.declared.answer.Form.{Form}
 use Rattle.elements.specs.declared.answer.Form.the-variants as form
 use Rattle.layouts.specs.declared.table.Class.{Class}
 use Rattle.layouts.specs.declared.table.Class.the-variants.{Keys, Certificates, Containers, Authentications}
-use Rattle.layouts.specs.Tables.{ciaRows, commonRows, ruleRows, keyRows, certificateRows, authenticationRows, pathRows, privateRows, passwordRows, classOf}
+use Rattle.layouts.specs.Tables.{ciaRows, commonRows, ruleRows, keyRows, certificateRows, authenticationRows, pathRows, privateRows, passwordRows, mark, tagOf, kindOf, sortBy, typeOf, classOf}
 use Rattle.elements.specs.Lists.{Bytes}
 use Rattle.layouts.specs.Book.{laid, recordsOf, records}
 use Rattle.layouts.specs.Files.{Name, nameOf, namesOf}
 use Rattle.elements.specs.Length.{shortest, wrap}
-use Rattle.layouts.specs.Render.{Rendered, gives, Renderer, nothing, _next_, within, when, either, from, plain, unvalue, rRow, rRows, rKeep, rMany, rAll, rTimes, rPath, rConditionOf, rCondition, rRule, rCommon, rClass, rPrivate, rCertificate, rPassword, rType, rContents, rObject, rObjects, rInside, rEntryOf, rEntry, rFill, rCia, rOd, rDirectory, framing, rDirectories, used, render}
+use Rattle.layouts.specs.Render.{Rendered, gives, Renderer, nothing, _next_, within, when, either, from, plain, unvalue, rRow, rRows, rKeep, rMany, rAll, rTimes, rPath, rConditionAs, rConditionOf, rCondition, rRule, rCommon, rClass, rPrivate, rCertificate, rPassword, rType, rContents, rObject, rObjects, rInside, rEntryOf, rEntry, rFill, rCia, rOd, rDirectory, framing, rDirectories, used, render}
 use Rattle.layouts.specs.Laws.{and-left, and-right}
 
 abbrev AllB : List ℕ → Type 0
@@ -119,11 +124,11 @@ out-test t f g = by-choose Out t (λ u _. f u) (λ u _. g u)
 
 when-b : {q : Renderer} (ks : List ℕ) → Outs q → Outs (when ks q)
 when-b ks f [] h = out tt tt
-when-b ks f (r ∷ rs) h = out-test (memb (r .kind) ks) (λ _. f (r ∷ rs) h) (λ _. out tt h)
+when-b ks f (r ∷ rs) h = out-test (among (r .kind) ks) (λ _. f (r ∷ rs) h) (λ _. out tt h)
 
 either-b : {q p : Renderer} (ks : List ℕ) → Outs q → Outs p → Outs (either ks q p)
 either-b ks f g [] h = g [] h
-either-b ks f g (r ∷ rs) h = out-test (memb (r .kind) ks) (λ _. f (r ∷ rs) h) (λ _. g (r ∷ rs) h)
+either-b ks f g (r ∷ rs) h = out-test (among (r .kind) ks) (λ _. f (r ∷ rs) h) (λ _. g (r ∷ rs) h)
 
 from-b : {f : ℕ → List ℕ → Renderer} → ((k : ℕ) (p : List ℕ) → AllB p → Outs (f k p)) → Outs (from f)
 from-b g [] h = out tt tt
@@ -159,15 +164,19 @@ unfolding rTimes
 times-b zero f = nothing-b
 times-b (suc k) f = next-b f (times-b k f)
 
+condition-as : (q : Renderer) → Outs q → (x : Sort) (p : List ℕ) → AllB p → Outs (rConditionAs q x p)
+unfolding rConditionAs
+condition-as q f Always p a = λ rs h. out (wrap-b (tagOf Always) [] (omega arith) tt) h
+condition-as q f Identifier p a = λ rs h. out (wrap-b (tagOf Identifier) p (omega arith) a) h
+condition-as q f Not p a = within-b (tagOf Not) (omega arith) f
+condition-as q f And p a = within-b (tagOf And) (omega arith) (times-b (count p) f)
+condition-as q f Or p a = within-b (tagOf Or) (omega arith) (times-b (count p) f)
+condition-as q f Other p a = λ rs h. out a h
+
 condition-b : (l : ℕ) → Outs (rCondition l)
 unfolding rCondition rConditionOf
 condition-b zero = nothing-b
-condition-b (suc l) = from-b (λ k p a rs h.
-    out-test (eqb k 0x0126) (λ _. out (wrap-b 0x05 [] (omega arith) tt) h) (λ _.
-    out-test (eqb k 0x0127) (λ _. out (wrap-b 0x04 p (omega arith) a) h) (λ _.
-    out-test (eqb k 0x0129) (λ _. within-b 0xa0 (omega arith) (condition-b l) rs h) (λ _.
-    out-test (eqb k 0x012a) (λ _. within-b 0xa1 (omega arith) (times-b (count p) (condition-b l)) rs h) (λ _.
-    out-test (eqb k 0x012b) (λ _. within-b 0xa2 (omega arith) (times-b (count p) (condition-b l)) rs h) (λ _. out a h))))))
+condition-b (suc l) = from-b (λ k p a rs h. condition-as (λ x. rCondition l x) (condition-b l) (sortBy kindOf k) p a rs h)
 
 path-b : Outs rPath
 unfolding rPath
@@ -182,7 +191,7 @@ rule-b = within-b 0x30 (omega arith) (next-b (next-b (rows-b ruleRows tt) (condi
 
 common-b : Outs rCommon
 unfolding rCommon
-common-b = next-b (next-b (rows-b commonRows tt) (when-b (0x0125 ∷ []) (within-b 0x30 (omega arith) (all-b′ (0x0125 ∷ []) rule-b)))) (keep-b 0x012f)
+common-b = next-b (next-b (rows-b commonRows tt) (when-b (mark ruleRows) (within-b 0x30 (omega arith) (all-b′ (mark ruleRows) rule-b)))) (keep-b 0x012f)
 
 class-b : (c : Class) → Outs (rClass c)
 unfolding rClass
@@ -193,31 +202,31 @@ class-b Containers = keep-b 0x0160
 
 private-b : Outs rPrivate
 unfolding rPrivate
-private-b = next-b (next-b (when-b (0x0180 ∷ []) in-path-b) (rows-b privateRows tt)) (keep-b 0x018f)
+private-b = next-b (next-b (when-b (mark pathRows) in-path-b) (rows-b privateRows tt)) (keep-b 0x018f)
 
 certificate-b : Outs rCertificate
 unfolding rCertificate
-certificate-b = next-b (either-b (0x0180 ∷ []) in-path-b plain-b) (keep-b 0x018f)
+certificate-b = next-b (either-b (mark pathRows) in-path-b plain-b) (keep-b 0x018f)
 
 password-b : Outs rPassword
 unfolding rPassword
-password-b = next-b (next-b (rows-b passwordRows tt) (when-b (0x0180 ∷ []) in-path-b)) (keep-b 0x019f)
+password-b = next-b (next-b (rows-b passwordRows tt) (when-b (mark pathRows) in-path-b)) (keep-b 0x019f)
 
 outs-test : (t : Bool) {x y : Unit {0} → Renderer} → ((u : Unit {0}) → Outs (x u)) → ((u : Unit {0}) → Outs (y u)) → Outs (choose t x y)
 outs-test true f g = f tt
 outs-test false f g = g tt
 
-type-b : (entry tag : ℕ) → Outs (rType entry tag)
+type-b : (x : ObjectType) → Outs (rType x)
 unfolding rType
-type-b entry tag =
-    outs-test (eqb tag 0x30 && eqb entry 0xa0) (λ _. within-b 0x30 (omega arith) private-b) (λ _.
-    outs-test (eqb tag 0x30 && leb 0xa4 entry && leb entry 0xa6) (λ _. within-b 0x30 (omega arith) certificate-b) (λ _.
-    outs-test (eqb tag 0x30 && eqb entry 0xa8) (λ _. within-b 0x30 (omega arith) password-b) (λ _. keep-b 0x01a0)))
+type-b PrivateKey = within-b 0x30 (omega arith) private-b
+type-b Certificate = within-b 0x30 (omega arith) certificate-b
+type-b Password = within-b 0x30 (omega arith) password-b
+type-b Sealed = keep-b 0x01a0
 
 contents-b : (entry tag : ℕ) → Outs (rContents entry tag)
 unfolding rContents
 contents-b entry tag =
-    next-b (next-b (next-b (within-b 0x30 (omega arith) common-b) (within-b 0x30 (omega arith) (class-b (classOf entry)))) (when-b (0x0170 ∷ []) (within-b 0xa0 (omega arith) plain-b))) (within-b 0xa1 (omega arith) (type-b entry tag))
+    next-b (next-b (next-b (within-b 0x30 (omega arith) common-b) (within-b 0x30 (omega arith) (class-b (classOf entry)))) (when-b (0x0170 ∷ []) (within-b 0xa0 (omega arith) plain-b))) (within-b 0xa1 (omega arith) (type-b (typeOf entry tag)))
 
 object-b : Outs rObject
 unfolding rObject

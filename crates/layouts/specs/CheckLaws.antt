@@ -13,7 +13,8 @@ use Rattle.elements.specs.ChoiceLaws.{by-choose}
 use Rattle.elements.specs.declared.fault.Fault.{Fault}
 use Rattle.elements.specs.declared.fault.Fault.the-variants.{PathTwice, FileDiffers, DumpSize}
 use Rattle.layouts.specs.Reading.{Rec, Res, took, fails}
-use Rattle.layouts.specs.Files.{Name, File, Framed, framed, broken, Files, files, brokenAt, Check, fine, wrongAt, Answer, accepted, refused, namesOf, equal, frame, frames, cia, od, pathOf, named, firstAgain, entryPlace, follow, directories, met, repeated, onFramed, onFiles, onRes, onCheck, readFiles, readParts, readDump}
+use Rattle.layouts.specs.Tables.{ownIdRow}
+use Rattle.layouts.specs.Files.{Name, File, Framed, framed, broken, Files, files, brokenAt, Check, fine, wrongAt, Answer, accepted, refused, namesOf, equal, frame, frames, cia, od, pathOf, paths, firstAgain, entryPlace, follow, directories, met, repeated, onFramed, onFiles, onRes, onCheck, readFiles, readParts, readDump}
 use Rattle.layouts.specs.DumpLaws.{equal-is}
 use Rattle.layouts.specs.WriteLaws.{equal-self}
 
@@ -22,14 +23,10 @@ pub data Distinct : List (List ℕ) → Type 0 where
   none : Distinct []
   more : {x : List ℕ} {l : List (List ℕ)} → (List·Memᴰ x l → ⊥) → Distinct l → Distinct (x ∷ l)
 
--- the paths that entries name, in order
-abbrev pub paths : List Name → List (List ℕ)
-paths ns = map (λ (n : Name). n .path) ns
-
 -- the own authIds in a book's records, in order
 unfoldable pub ownIds : List Rec → List (List ℕ)
 ownIds [] = []
-ownIds (r ∷ rs) = choose (eqb (r .kind) 0x0150) (λ _. r .pay ∷ ownIds rs) (λ _. ownIds rs)
+ownIds (r ∷ rs) = choose (eqb (r .kind) (ownIdRow .kind)) (λ _. r .pay ∷ ownIds rs) (λ _. ownIds rs)
 
 -- no two members are equal, and none was met before
 abbrev New : List (List ℕ) → List (List ℕ) → Type 0
@@ -63,25 +60,20 @@ step : {A : Type 0} {x : List ℕ} (ids : List (List ℕ)) {l : List (List ℕ)}
 step ids true e bad i = (λ z. absurd (bad z), λ w. absurd (true≢false (e ∙ from-new ids w .0)))
 step ids false e bad i = (λ z. to-new ids (sym e) (i .0 z), λ w. i .1 (from-new ids w .1))
 
-named-met : (s p : List ℕ) (ns : List Name) → named s p ns ≡ met p (paths ns)
-named-met s p [] = refl
-named-met s p (n ∷ ns) = rw (named-met s p ns) refl
-
-again-new : (s : List ℕ) (ms ns : List Name) → (firstAgain s ms ns ≡ length ns) ↔ New (paths ms) (paths ns)
+again-new : (ps qs : List (List ℕ)) → (firstAgain ps qs ≡ length qs) ↔ New ps qs
 unfolding firstAgain
-again-new s ms [] = (λ _. new-none (paths ms), λ _. refl)
-again-new s ms (n ∷ ns) = let i = again-new s (n ∷ ms) ns in
-    step (paths ms) (named s (n .path) ms) (named-met s (n .path) ms) (λ z. omega arith) (λ z. i .0 (omega arith), λ w. ap suc (i .1 w))
+again-new ps [] = (λ _. new-none ps, λ _. refl)
+again-new ps (q ∷ qs) = let i = again-new (q ∷ ps) qs in step ps (met q ps) refl (λ z. omega arith) (λ z. i .0 (omega arith), λ w. ap suc (i .1 w))
 
 -- 12, first half: no entry names a path once more exactly if no two paths are equal
-pub no-path-twice : (s : List ℕ) (ns : List Name) → (firstAgain s [] ns ≡ length ns) ↔ Distinct (paths ns)
-no-path-twice s ns = let i = again-new s [] ns in (λ z. i .0 z .0, λ d. i .1 (d, λ _ _. refl))
+pub no-path-twice : (qs : List (List ℕ)) → (firstAgain [] qs ≡ length qs) ↔ Distinct qs
+no-path-twice qs = let i = again-new [] qs in (λ z. i .0 z .0, λ d. i .1 (d, λ _ _. refl))
 
 -- and the count never passes the number of entries
-pub again-within : (s : List ℕ) (ms ns : List Name) → firstAgain s ms ns ≤ length ns
+pub again-within : (ps qs : List (List ℕ)) → firstAgain ps qs ≤ length qs
 unfolding firstAgain
-again-within s ms [] = omega arith
-again-within s ms (n ∷ ns) = by-choose (λ (m : ℕ). m ≤ suc (length ns)) (named s (n .path) ms) (λ _ _. omega arith) (λ _ _. omega (arith, again-within s (n ∷ ms) ns))
+again-within ps [] = omega arith
+again-within ps (q ∷ qs) = by-choose (λ (m : ℕ). m ≤ suc (length qs)) (met q ps) (λ _ _. omega arith) (λ _ _. omega (arith, again-within (q ∷ ps) qs))
 
 -- 12, second half: the files follow exactly if they have the entries' paths, one by one
 pub files-follow : (s : List ℕ) (ns : List Name) (fs : List File) → (follow s ns fs ≡ fine) ↔ (paths ns ≡ map (pathOf s) fs)
@@ -101,7 +93,7 @@ unfolding repeated ownIds
 ids-new ids place ps [] = (λ _. new-none ids, λ _. refl)
 ids-new ids place ps (r ∷ rs) = by-choose (λ (c : Check). (c ≡ fine) ↔ New ids (ownIds (r ∷ rs))) (eqb (r .kind) 0x0120)
     (λ _ e. rw (eqb-true (r .kind) 0x0120 e) (ids-new ids (getD ps 0 0) (drop 1 ps) rs))
-    (λ _ _. go (eqb (r .kind) 0x0150) (step ids (met (r .pay) ids) refl (λ z. let y : _≡_ {A = ℕ} 0 1 = cc in omega arith) (ids-new (r .pay ∷ ids) place ps rs)) (ids-new ids place ps rs))
+    (λ _ _. go (eqb (r .kind) (ownIdRow .kind)) (step ids (met (r .pay) ids) refl (λ z. let y : _≡_ {A = ℕ} 0 1 = cc in omega arith) (ids-new (r .pay ∷ ids) place ps rs)) (ids-new ids place ps rs))
   where
     go : (t : Bool) {x y : Check} {a b : List (List ℕ)} → (x ≡ fine) ↔ New ids a → (y ≡ fine) ↔ New ids b → (choose t (λ _. x) (λ _. y) ≡ fine) ↔ New ids (choose t (λ _. a) (λ _. b))
     go true i j = i
@@ -165,7 +157,7 @@ accepted-checks d rs = (
       by-files P bad (frames d (length d) (o .stop)) (λ fs fs′.
       by-res P bad (cia d (c .stop) (c .start)) (λ bs ls i bs′.
       by-res P bad (od d (o .stop) (o .start)) (λ cs ms j cs′.
-      by-choose P (ltb (firstAgain d [] (namesOf cs)) (length (namesOf cs))) (λ _ _. bad PathTwice (entryPlace d (length d) (firstAgain d [] (namesOf cs)) (o .stop) (o .start))) (λ _ a.
+      by-choose P (ltb (firstAgain [] (paths (namesOf cs))) (length (paths (namesOf cs)))) (λ _ _. bad PathTwice (entryPlace d (length d) (firstAgain [] (paths (namesOf cs))) (o .stop) (o .start))) (λ _ a.
       by-check P bad (follow d (namesOf cs) fs) (λ _ f.
       by-res P bad (directories d (namesOf cs) fs (length ms)) (λ ds ns k ds′.
       by-check P bad (repeated [] 0 (ms ++ ns) (cs ++ ds)) (λ _ r e.
@@ -185,7 +177,7 @@ accepted-checks d rs = (
         ms = ms;
         j = j;
         list-read = cs′;
-        paths-distinct = no-path-twice d (namesOf cs) .0 (omega (arith, ltb-false (firstAgain d [] (namesOf cs)) (length (namesOf cs)) a, again-within d [] (namesOf cs)));
+        paths-distinct = no-path-twice (paths (namesOf cs)) .0 (omega (arith, ltb-false (firstAgain [] (paths (namesOf cs))) (length (paths (namesOf cs))) a, again-within [] (paths (namesOf cs))));
         others-follow = files-follow d (namesOf cs) fs .0 f;
         ds = ds;
         ns = ns;
@@ -195,7 +187,7 @@ accepted-checks d rs = (
         whole = cc;
       })))))))))) (λ _ _. bad DumpSize 0),
   λ w.
-      let q = no-path-twice d (namesOf (w .cs)) .1 (w .paths-distinct) in
+      let q = no-path-twice (paths (namesOf (w .cs))) .1 (w .paths-distinct) in
       rw (
         le-leb (length d) 32768 (w .fits),
         w .info-framed,
@@ -203,7 +195,7 @@ accepted-checks d rs = (
         w .others-framed,
         w .info-read,
         w .list-read,
-        le-ltb (firstAgain d [] (namesOf (w .cs))) (length (namesOf (w .cs))) (omega arith),
+        le-ltb (firstAgain [] (paths (namesOf (w .cs)))) (length (paths (namesOf (w .cs)))) (omega arith),
         files-follow d (namesOf (w .cs)) (w .others) .1 (w .others-follow),
         w .others-read,
         ids-distinct 0 (w .ms ++ w .ns) (w .cs ++ w .ds) .1 (w .ids-apart),

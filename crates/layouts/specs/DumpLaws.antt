@@ -10,12 +10,13 @@ use lib.Seq.{slice, slice-empty, length-slice, take-length, take-at}
 use lib.Dec.{ltb, leb, eqb, T, eqb→eq}
 use borrow.Author.Tests.{ltb-false, leb-true, eqb-true}
 use Rattle.elements.specs.declared.fault.Fault.{Fault}
+use Rattle.elements.specs.Sealed.{among}
 use Rattle.layouts.specs.Reading.{Rec, Res, took, fails, also}
 use Rattle.layouts.specs.Parts.{counted}
-use Rattle.layouts.specs.Files.{Name, File, Framed, framed, broken, Files, files, brokenAt, Check, fine, wrongAt, Answer, accepted, refused, namesOf, equal, two, frameOf, fileIn, frame, namedFile, namedFrame, consFile, moreFiles, frames, pathOf, firstAgain, entryPlace, follow, directories, onFramed, onFiles, onRes, onCheck, readFiles, readParts, readDump}
+use Rattle.layouts.specs.Files.{Name, File, Framed, framed, broken, Files, files, brokenAt, Check, fine, wrongAt, Answer, accepted, refused, namesOf, paths, equal, two, frameOf, fileIn, frame, namedFile, namedFrame, consFile, moreFiles, frames, pathOf, firstAgain, entryPlace, follow, directories, onFramed, onFiles, onRes, onCheck, readFiles, readParts, readDump}
 use Rattle.layouts.specs.Render.{Rendered, gives, rCia, rOd, rDirectory, framing, rDirectories, used, render}
 use Rattle.elements.specs.Lists.{join}
-use Rattle.layouts.specs.Laws.{Look, Fresh, Begins, none, some, size, size-append, Laid, laid-append, Facts, Ok, refuses, takes, and-left, and-right, begins-fresh, avoids, avoids-memb}
+use Rattle.layouts.specs.Laws.{Look, Fresh, Begins, none, some, size, size-append, Laid, laid-append, Facts, Ok, refuses, takes, and-left, and-right, begins-fresh, avoids, avoids-among}
 use Rattle.elements.specs.Lists.{one, cons}
 use Rattle.elements.specs.ChoiceLaws.{by-choose}
 use Rattle.elements.specs.Record.{recordBytes}
@@ -160,7 +161,7 @@ data FollowOk (s : List ℕ) (ns : List Name) (fs : List File) : Check → Type 
 
 begins-alone : (first stop : List ℕ) {e : Bool} {bs : List Rec} → Begins first e bs → T (avoids first stop) → Fresh stop bs
 begins-alone first stop (none t) a = tt
-begins-alone first stop (some {r = r} m) a = avoids-memb (r .kind) first stop a m
+begins-alone first stop (some {r = r} m) a = avoids-among (r .kind) first stop a m
 
 begins-first : {ks : List ℕ} {bs : List Rec} (ds : List Rec) → Begins ks false bs → Begins ks true (bs ++ ds)
 begins-first ds (none t) = absurd t
@@ -263,7 +264,7 @@ module _ (s : List ℕ) (bytes : (i : ℕ) → getD s i 0 < 256) (small : length
       Facts s rCia ciaLook (c .stop) (c .start) bs i → Facts s rOd odLook (o .stop) (o .start) cs j → Good s (readFiles s o fs bs cs ms)
   unfolding readFiles
   files-good c o v w {fs} ch {bs} {cs} ms mk f g =
-      by-choose (Good s) (ltb (firstAgain s [] (namesOf cs)) (length (namesOf cs))) (λ _ _. refuse (entryPlace s (length s) (firstAgain s [] (namesOf cs)) (o .stop) (o .start)) (entry-place s bytes (length s) (firstAgain s [] (namesOf cs)) (o .stop) (o .start) (w .order) (w .stop))) (λ _ _.
+      by-choose (Good s) (ltb (firstAgain [] (paths (namesOf cs))) (length (paths (namesOf cs)))) (λ _ _. refuse (entryPlace s (length s) (firstAgain [] (paths (namesOf cs))) (o .stop) (o .start)) (entry-place s bytes (length s) (firstAgain [] (paths (namesOf cs))) (o .stop) (o .start) (w .order) (w .stop))) (λ _ _.
       on-follow (follow-ok s bytes (namesOf cs) fs (chain-places ch)) (λ _ q. on-dirs (dirs-ok s bytes small q ch (length ms)) (directories-marked s bytes (namesOf cs) fs (length ms) (chain-stops ch)) (λ ds ns mn d b z y.
       on-check (repeated-ok (length s) [] 0 (ms ++ ns) (cs ++ ds) (omega arith) (marks-append (length s) ms ns mk mn)) (accept (all-good c o v w f g d b)
       (omega (arith, size-append bs (cs ++ ds), size-append cs ds, f .bound, g .bound, f .low, f .high, g .low, g .high, z, v .start, v .order, w .start, w .order, w .stop)) (laid-append (length s) bs (cs ++ ds) (f .laid) (laid-append (length s) cs ds (g .laid) y)) small))))

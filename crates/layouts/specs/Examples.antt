@@ -2,7 +2,7 @@
 use Prim.Native.Nat.{ℕ}
 use mathlib.Core.Path.{_≡_, refl}
 use mathlib.Core.List.{List, [], _∷_}
-use Rattle.layouts.specs.Computing.{book, refusal, reading, rendering}
+use Rattle.layouts.specs.Computing.{book, dump, refusal, answered, reading, rendering}
 
 -- the shared case: 105 bytes
 abbrev pub shared : List ℕ
@@ -16,12 +16,12 @@ sharedBook =
 
 -- it is accepted, with that book
 pub shared-read : reading shared ≡ book sharedBook
-unfolding reading
+unfolding answered
 shared-read = refl
 
 -- and the book gives the dump back
-pub shared-rendered : rendering sharedBook ≡ shared
-unfolding rendering
+pub shared-rendered : rendering sharedBook ≡ dump shared
+unfolding answered
 shared-rendered = refl
 
 -- Annex E.2's listing as EF.OD behind that CIAInfo: 6 at 30 (03020580)
@@ -31,7 +31,7 @@ e2Printed =
 
 -- a flag word with a trailing zero bit
 pub e2-printed : reading e2Printed ≡ refusal 6 30
-unfolding reading
+unfolding answered
 e2-printed = refl
 
 -- with that mended to 0780: 6 at 52
@@ -41,7 +41,7 @@ e2Mended =
 
 -- native is written though TRUE
 pub e2-mended : reading e2Mended ≡ refusal 6 52
-unfolding reading
+unfolding answered
 e2-mended = refl
 
 -- with native dropped too and lengths corrected: 80 bytes of EF.OD
@@ -56,12 +56,12 @@ e2Book =
 
 -- it is accepted
 pub e2-read : reading e2 ≡ book e2Book
-unfolding reading
+unfolding answered
 e2-read = refl
 
 -- and comes back
-pub e2-rendered : rendering e2Book ≡ e2
-unfolding rendering
+pub e2-rendered : rendering e2Book ≡ dump e2
+unfolding answered
 e2-rendered = refl
 
 -- Annex D's card: D.3 CIAInfo, D.2 EF.OD, D.4 EF.PrKD, D.5 EF.CD, D.7 EF.DCOD, D.6 EF.AOD
@@ -76,10 +76,10 @@ annexDBook =
 
 -- it is accepted
 pub annex-d-read : reading annexD ≡ book annexDBook
-unfolding reading
+unfolding answered
 annex-d-read = refl
 
 -- and comes back
-pub annex-d-rendered : rendering annexDBook ≡ annexD
-unfolding rendering
+pub annex-d-rendered : rendering annexDBook ≡ dump annexD
+unfolding answered
 annex-d-rendered = refl

@@ -1,6 +1,6 @@
 -- "House records" and "Refusals and their places" of document 01: files, their frames, and the whole dump.
 use Prim.Native.Nat.{ℕ, zero, suc, _+_, _-_, _*_}
-use mathlib.Core.List.{List, [], _∷_, _++_}
+use mathlib.Core.List.{List, [], _∷_, _++_, map}
 use mathlib.Core.Bool.{Bool, true, false, _||_, _&&_, not}
 use lib.ListN.{length, getD, drop}
 use lib.Seq.{slice}
@@ -15,7 +15,7 @@ use Rattle.elements.specs.Put.{le16}
 use Rattle.layouts.specs.declared.table.Need.the-variants.{Required}
 use Rattle.layouts.specs.Reading.{Rec, rec, Res, took, fails, also, andThen, _then_, Reader, Body}
 use Rattle.layouts.specs.Parts.{component, components, ended, element, surplus, inside, rest, sealed, repeat, toEnd, counted, keptOut}
-use Rattle.layouts.specs.Tables.{ciaRows}
+use Rattle.layouts.specs.Tables.{ciaRows, ownIdRow}
 use Rattle.layouts.specs.Objects.{object}
 
 -- a path entry of EF.OD: its tag, and the path that it names
@@ -61,6 +61,20 @@ equal [] [] = true
 equal [] (y ∷ m) = false
 equal (x ∷ l) [] = false
 equal (x ∷ l) (y ∷ m) = eqb x y && equal l m
+
+-- one of these is equal to it
+abbrev pub met : List ℕ → List (List ℕ) → Bool
+met x [] = false
+met x (y ∷ ys) = equal x y || met x ys
+
+-- the paths that entries name, in order
+abbrev pub paths : List Name → List (List ℕ)
+paths ns = map (λ (n : Name). n .path) ns
+
+-- "12 paths: EF.OD names a path twice": how many path entries come before the first that names a path once more; all, if none does
+unfoldable pub firstAgain : List (List ℕ) → List (List ℕ) → ℕ
+firstAgain before [] = 0
+firstAgain before (p ∷ ps) = choose (met p before) (λ _. 0) (λ _. suc (firstAgain (p ∷ before) ps))
 
 module _ (s : List ℕ) where
   -- "a first byte 00 or FF where an element would start begins the fill"
@@ -174,16 +188,6 @@ module _ (s : List ℕ) where
   abbrev pub pathOf : File → List ℕ
   pathOf f = slice (f .named) (f .start) s
 
-  -- "12 paths: EF.OD names a path twice"
-  abbrev pub named : List ℕ → List Name → Bool
-  named p [] = false
-  named p (n ∷ ns) = equal p (n .path) || named p ns
-
-  -- how many path entries come before the first that names a path once more; all, if none does
-  unfoldable pub firstAgain : List Name → List Name → ℕ
-  firstAgain met [] = 0
-  firstAgain met (n ∷ ns) = choose (named (n .path) met) (λ _. 0) (λ _. suc (firstAgain (n ∷ met) ns))
-
   -- the place of the path entry after m others, from a place of EF.OD on
   abbrev pub isPath : Head → Bool
   isPath (No f p) = false
@@ -220,15 +224,11 @@ module _ (s : List ℕ) where
   directories (n ∷ ns) (f ∷ fs) k = counted (directory (n .tag) k (f .stop) (f .start)) (λ c _. directories ns fs (k + c))
 
 -- "13 twice: two authentication objects with equal own authId; place is the first object that repeats one": over the records, with the places of their objects
-abbrev pub met : List ℕ → List (List ℕ) → Bool
-met i [] = false
-met i (j ∷ js) = equal i j || met i js
-
 unfoldable pub repeated : List (List ℕ) → ℕ → List ℕ → List Rec → Check
 repeated ids place ps [] = fine
 repeated ids place ps (r ∷ rs) =
     choose (eqb (r .kind) 0x0120) (λ _. repeated ids (getD ps 0 0) (drop 1 ps) rs)
-    (λ _. choose (eqb (r .kind) 0x0150)
+    (λ _. choose (eqb (r .kind) (ownIdRow .kind))
     (λ _. choose (met (r .pay) ids) (λ _. wrongAt AuthIdTwice place) (λ _. repeated (r .pay ∷ ids) place ps rs))
     (λ _. repeated ids place ps rs))
 
@@ -253,8 +253,8 @@ module _ (s : List ℕ) where
   -- 12, the files in turn, 13: after CIAInfo's records bs and EF.OD's cs with its objects' places
   unfoldable pub readFiles : File → List File → List Rec → List Rec → List ℕ → Answer
   readFiles o fs bs cs ms =
-      choose (ltb (firstAgain s [] (namesOf cs)) (length (namesOf cs)))
-      (λ _. refused PathTwice (entryPlace s (length s) (firstAgain s [] (namesOf cs)) (o .stop) (o .start)))
+      choose (ltb (firstAgain [] (paths (namesOf cs))) (length (paths (namesOf cs))))
+      (λ _. refused PathTwice (entryPlace s (length s) (firstAgain [] (paths (namesOf cs))) (o .stop) (o .start)))
       (λ _. onCheck (follow s (namesOf cs) fs) (λ _.
       onRes (directories s (namesOf cs) fs (length ms)) (λ ds ns.
       onCheck (repeated [] 0 (ms ++ ns) (cs ++ ds)) (λ _. accepted (bs ++ (cs ++ ds))))))

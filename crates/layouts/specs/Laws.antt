@@ -12,7 +12,8 @@ use Rattle.elements.specs.Choice.{choose}
 use Rattle.elements.specs.Lists.{join}
 use Rattle.elements.specs.declared.fault.Fault.{Fault}
 use Rattle.elements.specs.ChoiceLaws.{by-choose}
-use Rattle.layouts.specs.Reading.{Rec, Res, took, fails, also, andThen, _then_, Reader, Body, memb}
+use Rattle.elements.specs.Sealed.{among}
+use Rattle.layouts.specs.Reading.{Rec, Res, took, fails, also, andThen, _then_, Reader, Body}
 use Rattle.layouts.specs.Render.{gives, Renderer, _next_}
 
 -- the kinds that a part's records may begin with, whether it may have none, the kinds that may not follow it, whether it always ends
@@ -30,15 +31,15 @@ look f e t u c = record { first = f; empty = e; stop = t; full = u; credit = c }
 -- records that do not begin with one of the kinds
 abbrev pub Fresh : List ℕ → List Rec → Type 0
 Fresh ks [] = Unit {0}
-Fresh ks (r ∷ rs) = T (not (memb (r .kind) ks))
+Fresh ks (r ∷ rs) = T (not (among (r .kind) ks))
 
 pub data Begins (ks : List ℕ) (e : Bool) : List Rec → Type 0 where
   none : T e → Begins ks e []
-  some : {r : Rec} {rs : List Rec} → T (memb (r .kind) ks) → Begins ks e (r ∷ rs)
+  some : {r : Rec} {rs : List Rec} → T (among (r .kind) ks) → Begins ks e (r ∷ rs)
 
 abbrev pub avoids : List ℕ → List ℕ → Bool
 avoids [] ks = true
-avoids (k ∷ l) ks = not (memb k ks) && avoids l ks
+avoids (k ∷ l) ks = not (among k ks) && avoids l ks
 
 -- the bytes of a book
 abbrev pub size : List Rec → ℕ
@@ -93,33 +94,33 @@ not-or : (a b : Bool) → T (not a) → T (not b) → T (not (a || b))
 not-or true b t u = t
 not-or false b t u = u
 
-memb-append : (k : ℕ) (l m : List ℕ) → T (not (memb k (l ++ m))) → T (not (memb k l)) × T (not (memb k m))
-memb-append k [] m t = (tt, t)
-memb-append k (x ∷ l) m t =
-    let w = or-not (eqb k x) (memb k (l ++ m)) t in
-    let v = memb-append k l m (w .1) in
-    (not-or (eqb k x) (memb k l) (w .0) (v .0), v .1)
+among-append : (k : ℕ) (l m : List ℕ) → T (not (among k (l ++ m))) → T (not (among k l)) × T (not (among k m))
+among-append k [] m t = (tt, t)
+among-append k (x ∷ l) m t =
+    let w = or-not (eqb k x) (among k (l ++ m)) t in
+    let v = among-append k l m (w .1) in
+    (not-or (eqb k x) (among k l) (w .0) (v .0), v .1)
 
 pub fresh-left : (l m : List ℕ) (rs : List Rec) → Fresh (l ++ m) rs → Fresh l rs
 fresh-left l m [] f = tt
-fresh-left l m (r ∷ rs) f = memb-append (r .kind) l m f .0
+fresh-left l m (r ∷ rs) f = among-append (r .kind) l m f .0
 
 pub fresh-right : (l m : List ℕ) (rs : List Rec) → Fresh (l ++ m) rs → Fresh m rs
 fresh-right l m [] f = tt
-fresh-right l m (r ∷ rs) f = memb-append (r .kind) l m f .1
+fresh-right l m (r ∷ rs) f = among-append (r .kind) l m f .1
 
-pub avoids-memb : (k : ℕ) (l ks : List ℕ) → T (avoids l ks) → T (memb k l) → T (not (memb k ks))
-avoids-memb k [] ks a m = absurd m
-avoids-memb k (x ∷ l) ks a m = go (avoids-memb k l ks (and-right (not (memb x ks)) (avoids l ks) a)) (eqb k x) refl m
+pub avoids-among : (k : ℕ) (l ks : List ℕ) → T (avoids l ks) → T (among k l) → T (not (among k ks))
+avoids-among k [] ks a m = absurd m
+avoids-among k (x ∷ l) ks a m = go (avoids-among k l ks (and-right (not (among x ks)) (avoids l ks) a)) (eqb k x) refl m
   where
-    go : (T (memb k l) → T (not (memb k ks))) → (b : Bool) → eqb k x ≡ b → T (b || memb k l) → T (not (memb k ks))
-    go ih true e m = rw (eqb-true k x e) (and-left (not (memb x ks)) (avoids l ks) a)
+    go : (T (among k l) → T (not (among k ks))) → (b : Bool) → eqb k x ≡ b → T (b || among k l) → T (not (among k ks))
+    go ih true e m = rw (eqb-true k x e) (and-left (not (among x ks)) (avoids l ks) a)
     go ih false e m = ih m
 
 -- what begins a part does not begin with what may not follow the part before
 pub begins-fresh : (first stop : List ℕ) (e : Bool) {bs : List Rec} (rs : List Rec) → Begins first e bs → T (avoids first stop) → (T e → Fresh stop rs) → Fresh stop (bs ++ rs)
 begins-fresh first stop e rs (none t) a f = f t
-begins-fresh first stop e rs (some {r = r} m) a f = avoids-memb (r .kind) first stop a m
+begins-fresh first stop e rs (some {r = r} m) a f = avoids-among (r .kind) first stop a m
 
 pub size-append : (bs cs : List Rec) → size (bs ++ cs) ≡ size bs + size cs
 size-append [] cs = omega arith
@@ -141,27 +142,27 @@ only : (b : Bool) (l : List ℕ) (rs : List Rec) → Fresh (onlyIf b l) rs → T
 only true l rs f t = f
 only false l rs f t = absurd t
 
-memb-more : (k : ℕ) (l m : List ℕ) → T (memb k l) → T (memb k (l ++ m))
-memb-more k [] m t = absurd t
-memb-more k (x ∷ l) m t = go (eqb k x) (memb-more k l m) t
+among-more : (k : ℕ) (l m : List ℕ) → T (among k l) → T (among k (l ++ m))
+among-more k [] m t = absurd t
+among-more k (x ∷ l) m t = go (eqb k x) (among-more k l m) t
   where
-    go : (b : Bool) → (T (memb k l) → T (memb k (l ++ m))) → T (b || memb k l) → T (b || memb k (l ++ m))
+    go : (b : Bool) → (T (among k l) → T (among k (l ++ m))) → T (b || among k l) → T (b || among k (l ++ m))
     go true ih t = tt
     go false ih t = ih t
 
-memb-later : (k : ℕ) (l m : List ℕ) → T (memb k m) → T (memb k (l ++ m))
-memb-later k [] m t = t
-memb-later k (x ∷ l) m t = go (eqb k x) (memb-later k l m t)
+among-later : (k : ℕ) (l m : List ℕ) → T (among k m) → T (among k (l ++ m))
+among-later k [] m t = t
+among-later k (x ∷ l) m t = go (eqb k x) (among-later k l m t)
   where
-    go : (b : Bool) → T (memb k (l ++ m)) → T (b || memb k (l ++ m))
+    go : (b : Bool) → T (among k (l ++ m)) → T (b || among k (l ++ m))
     go true ih = tt
     go false ih = ih
 
 begins-seq : (f g : List ℕ) (d e : Bool) {bs cs : List Rec} → Begins f d bs → Begins g e cs → Begins (f ++ onlyIf d g) (d && e) (bs ++ cs)
 begins-seq f g true e (none t) (none u) = none u
-begins-seq f g true e (none t) (some {r = r} m) = some (memb-later (r .kind) f g m)
+begins-seq f g true e (none t) (some {r = r} m) = some (among-later (r .kind) f g m)
 begins-seq f g false e (none t) c = absurd t
-begins-seq f g d e (some {r = r} m) c = some (memb-more (r .kind) f (onlyIf d g) m)
+begins-seq f g d e (some {r = r} m) c = some (among-more (r .kind) f (onlyIf d g) m)
 
 module _ {s : List ℕ} {q₁ q₂ : Renderer} {L M : Look} {end at : ℕ} where
   seq-facts : {bs cs : List Rec} {m n : ℕ} → Facts s q₁ L end at bs m → Facts s q₂ M end m cs n → T (avoids (M .first) (L .stop)) → Facts s (q₁ next q₂) (seqLook L M) end at (bs ++ cs) n
@@ -193,7 +194,7 @@ seq f g a = λ end at h l. then-ok (f end at h l) (λ m i j. g end m j l) a
 -- a part may be known by less
 abbrev pub subset : List ℕ → List ℕ → Bool
 subset [] m = true
-subset (x ∷ l) m = memb x m && subset l m
+subset (x ∷ l) m = among x m && subset l m
 
 abbrev pub implies : Bool → Bool → Bool
 implies true b = b
@@ -202,12 +203,12 @@ implies false b = true
 abbrev pub under : Look → Look → Bool
 under L M = (subset (L .first) (M .first) && subset (L .stop) (M .stop)) && ((implies (L .empty) (M .empty) && implies (M .full) (L .full)) && leb (L .credit) (M .credit))
 
-subset-memb : (k : ℕ) (l m : List ℕ) → T (subset l m) → T (memb k l) → T (memb k m)
-subset-memb k [] m t h = absurd h
-subset-memb k (x ∷ l) m t h = go (eqb k x) refl (subset-memb k l m (and-right (memb x m) (subset l m) t)) h
+subset-among : (k : ℕ) (l m : List ℕ) → T (subset l m) → T (among k l) → T (among k m)
+subset-among k [] m t h = absurd h
+subset-among k (x ∷ l) m t h = go (eqb k x) refl (subset-among k l m (and-right (among x m) (subset l m) t)) h
   where
-    go : (b : Bool) → eqb k x ≡ b → (T (memb k l) → T (memb k m)) → T (b || memb k l) → T (memb k m)
-    go true e ih h = rw (eqb-true k x e) (and-left (memb x m) (subset l m) t)
+    go : (b : Bool) → eqb k x ≡ b → (T (among k l) → T (among k m)) → T (b || among k l) → T (among k m)
+    go true e ih h = rw (eqb-true k x e) (and-left (among x m) (subset l m) t)
     go false e ih h = ih h
 
 contra : (a b : Bool) → (T a → T b) → T (not b) → T (not a)
@@ -220,7 +221,7 @@ contra false b f t = tt
 
 fresh-subset : (l m : List ℕ) (rs : List Rec) → T (subset l m) → Fresh m rs → Fresh l rs
 fresh-subset l m [] t f = tt
-fresh-subset l m (r ∷ rs) t f = contra (memb (r .kind) l) (memb (r .kind) m) (subset-memb (r .kind) l m t) f
+fresh-subset l m (r ∷ rs) t f = contra (among (r .kind) l) (among (r .kind) m) (subset-among (r .kind) l m t) f
 
 implied : (a b : Bool) → T (implies a b) → T a → T b
 implied true b t u = t
@@ -228,7 +229,7 @@ implied false b t u = absurd u
 
 begins-subset : (l m : List ℕ) (d e : Bool) {bs : List Rec} → T (subset l m) → T (implies d e) → Begins l d bs → Begins m e bs
 begins-subset l m d e t i (none u) = none (implied d e i u)
-begins-subset l m d e t i (some {r = r} h) = some (subset-memb (r .kind) l m t h)
+begins-subset l m d e t i (some {r = r} h) = some (subset-among (r .kind) l m t h)
 
 pub weaken : {s : List ℕ} {q : Renderer} (L M : Look) {end at : ℕ} {r : Res} → T (under L M) → Ok s q L end at r → Ok s q M end at r
 weaken L M t (refuses p h) = refuses p h

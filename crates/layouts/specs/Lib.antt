@@ -23,5 +23,6 @@ pub mod DumpLaws
 pub mod ByteLaws
 pub mod WriteLaws
 pub mod FuelLaws
+pub mod RowCases
 pub mod Refusals
 pub mod CheckLaws

@@ -22,6 +22,7 @@ use Rattle.elements.specs.declared.answer.Run.the-variants.{Ends, Refused}
 use Rattle.elements.specs.Sealed.{sealedRun, constructed}
 use Rattle.layouts.specs.Parts.{due, component, ended, element, whatever, surplus, sealed, repeat, counted, toEnd, keep}
 use Rattle.layouts.specs.Objects.{counts, contents, objectBody, object}
+use Rattle.layouts.specs.Tables.{ownIdRow}
 use Rattle.layouts.specs.Files.{Name, File, Check, fine, wrongAt, toFill, filled, fill, objects, namedPath, entryInside, entryBody, od, directory, directories, isNaming, endOf, entryPlace, met, repeated}
 use Rattle.layouts.specs.Laws.{and-left}
 use Rattle.layouts.specs.HeadLaws.{HeadOk, badHead, goodHead, header-ok}
@@ -187,6 +188,6 @@ unfolding repeated
 repeated-ok n ids place ps [] h m = check-fine
 repeated-ok n ids place ps (r ∷ rs) h m =
     check-test (eqb (r .kind) 0x0120) (λ _. repeated-ok n ids (getD ps 0 0) (drop 1 ps) rs (marks-head n ps m) (marks-tail n ps m)) (λ _.
-    check-test (eqb (r .kind) 0x0150)
+    check-test (eqb (r .kind) (ownIdRow .kind))
     (λ _. check-test (met (r .pay) ids) (λ _. check-at place h) (λ _. repeated-ok n (r .pay ∷ ids) place ps rs h m))
     (λ _. repeated-ok n ids place ps rs h m))

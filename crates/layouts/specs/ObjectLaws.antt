@@ -7,20 +7,24 @@ use native.Mathlib.Omega.{arith}
 use lib.ListN.{length, getD}
 use lib.Seq.{slice, slice-empty, length-slice}
 use lib.Dec.{ltb, leb, eqb, T, leb→le}
-use borrow.Author.Tests.{ltb-false, eqb-true, ne-eqb}
+use borrow.Author.Tests.{ltb-false, eqb-true, eq-eqb, ne-eqb}
 use Rattle.elements.specs.Choice.{choose}
 use Rattle.elements.specs.Put.{le16}
 use Rattle.elements.specs.ChoiceLaws.{by-choose}
-use Rattle.layouts.specs.Reading.{Rec, rec, Res, took, fails, also, _then_, Reader, Body, memb, count, number}
+use Rattle.layouts.specs.Reading.{Rec, rec, Res, took, fails, also, _then_, Reader, Body, count, number}
 use Rattle.layouts.specs.declared.table.Need.the-variants.{Required, Optional}
-use Rattle.elements.specs.Sealed.{sealedRun}
+use Rattle.elements.specs.Sealed.{among, sealedRun}
+use Rattle.layouts.specs.declared.table.ObjectType.{ObjectType}
+use Rattle.layouts.specs.declared.table.ObjectType.the-variants.{PrivateKey, Certificate, Password, Sealed}
+use Rattle.layouts.specs.declared.table.Sort.{Sort}
+use Rattle.layouts.specs.declared.table.Sort.the-variants.{Always, Identifier, Not, And, Or, Other}
 use Rattle.layouts.specs.Parts.{component, ended, element, sealed, toEnd, keptOut}
 use Rattle.layouts.specs.declared.table.Class.{Class}
 use Rattle.layouts.specs.declared.table.Class.the-variants.{Keys, Certificates, Containers, Authentications}
-use Rattle.layouts.specs.Tables.{commonRows, ruleRows, keyRows, certificateRows, authenticationRows, pathRows, privateRows, passwordRows, classOf}
-use Rattle.layouts.specs.Objects.{has, same, paired, flagged, counts, quiet, listed, path, conditionBody, condition, plainCondition, rule, rules, common, classBody, subclass, privateKey, certificateValue, certificate, password, typeBody, contents, objectBody, object}
+use Rattle.layouts.specs.Tables.{commonRows, ruleRows, keyRows, certificateRows, authenticationRows, indexRow, lengthRow, pathRows, privateRows, passwordRows, mark, tagOf, kindOf, sortBy, typeOf, classOf}
+use Rattle.layouts.specs.Objects.{has, same, paired, flagged, counts, quiet, listed, path, conditionAs, conditionBody, condition, plainCondition, rule, rules, common, classBody, subclass, privateKey, certificateValue, certificate, password, typeBody, contents, objectBody, object}
 use Rattle.elements.specs.Length.{wrap}
-use Rattle.layouts.specs.Render.{gives, Renderer, _next_, either, within, from, plain, rKeep, rAll, rTimes, rRows, rPath, rConditionOf, rCondition, rRule, rCommon, rClass, rPrivate, rCertificate, rPassword, rType, rContents, rObject}
+use Rattle.layouts.specs.Render.{gives, Renderer, _next_, either, within, from, plain, rKeep, rAll, rTimes, rRows, rPath, rConditionAs, rConditionOf, rCondition, rRule, rCommon, rClass, rPrivate, rCertificate, rPassword, rType, rContents, rObject}
 use Rattle.layouts.specs.Laws.{Look, look, some, Facts, Ok, refuses, takes, Law, BodyLaw, by-test, and-left, and-right, seqLook, seq, weaken}
 use Rattle.layouts.specs.HeadLaws.{low}
 use Rattle.layouts.specs.PartLaws.{elemLook, offerLook, fullLook, restLook, needed, offered, closed, ElemLaw, any, kept, run-placed, inner-placed, sealed-plain, sealed-kept, rest-law, contents-kept, within-facts, ok-map, one-way, other-way}
@@ -31,7 +35,7 @@ use Rattle.layouts.specs.RowLaws.{rowsLook, rows-law}
 module _ {s : List ℕ} {q : Renderer} {L : Look} {end at : ℕ} where
   paired-ok : (p : ℕ) → p ≤ length s → {r : Res} → Ok s q L end at r → Ok s q L end at (paired p r)
   paired-ok p h (refuses x o) = refuses x o
-  paired-ok p h (takes {bs = bs} f) = by-test (same (has 0x0181 bs) (has 0x0182 bs)) (λ _ _. takes f) (λ _ _. refuses p h)
+  paired-ok p h (takes {bs = bs} f) = by-test (same (has (indexRow .kind) bs) (has (lengthRow .kind) bs)) (λ _ _. takes f) (λ _ _. refuses p h)
 
   flagged-ok : (p : ℕ) → p ≤ length s → {r : Res} → Ok s q L end at r → Ok s q L end at (flagged p r)
   flagged-ok p h (refuses x o) = refuses x o
@@ -56,7 +60,7 @@ also-map b ms (refuses p h) f = refuses p h
 also-map b ms (takes {bs = bs} {n = n} g) f = takes (f bs n g)
 
 abbrev pub condLook : Look
-condLook = look (0x0126 ∷ 0x0127 ∷ 0x0128 ∷ 0x0129 ∷ 0x012a ∷ 0x012b ∷ []) false [] false 0
+condLook = look (kindOf Always ∷ kindOf Identifier ∷ kindOf Other ∷ kindOf Not ∷ kindOf And ∷ kindOf Or ∷ []) false [] false 0
 
 abbrev pub pathLook : Look
 pathLook = fullLook (rowsLook pathRows)
@@ -65,7 +69,7 @@ abbrev pub ruleLook : Look
 ruleLook = seqLook (seqLook (rowsLook ruleRows) condLook) (restLook 0x012c)
 
 abbrev pub rulesLook : Look
-rulesLook = look (0x0125 ∷ []) false (0x0125 ∷ ruleLook .stop) true 0
+rulesLook = look (mark ruleRows) false (mark ruleRows ++ ruleLook .stop) true 0
 
 abbrev pub commonLook : Look
 commonLook = seqLook (seqLook (rowsLook commonRows) (offerLook Optional rulesLook)) (restLook 0x012f)
@@ -130,10 +134,17 @@ objectLook = look (0x0120 ∷ []) false (contentsLook .stop) false 0
 pub to-end : (end at : ℕ) → at ≤ end → ltb at end ≡ false → T true → at ≡ end
 to-end end at h e _ = omega (arith, ltb-false at end e)
 
--- the same test for reader and renderer
-by-choice : {s : List ℕ} {L : Look} (t : Bool) {x y : Unit {0} → Body} {q r : Unit {0} → Renderer} → ((u : Unit {0}) → BodyLaw s (x u) (q u) L) → ((u : Unit {0}) → BodyLaw s (y u) (r u) L) → BodyLaw s (choose t x y) (choose t q r) L
-by-choice true f g = f tt
-by-choice false f g = g tt
+-- the sort found by a tag has that tag, or is the one for all others
+data Found (t : ℕ) : Sort → Type 0 where
+  found : {x : Sort} → t ≡ tagOf x → Found t x
+  other : Found t Other
+
+found-sort : (t : ℕ) → Found t (sortBy tagOf t)
+unfolding sortBy
+found-sort t = go Always λ _. go Identifier λ _. go Not λ _. go And λ _. go Or λ _. other
+  where
+    go : (x : Sort) {y : Unit {0} → Sort} → ((u : Unit {0}) → Found t (y u)) → Found t (choose (eqb t (tagOf x)) (λ _. x) y)
+    go x f = by-choose (Found t) (eqb t (tagOf x)) (λ _ e. found (eqb-true t (tagOf x) e)) (λ u _. f u)
 
 pub count-le16 : (v : ℕ) → v < 65536 → count (le16 v) ≡ v
 unfolding count
@@ -145,14 +156,14 @@ module _ (s : List ℕ) (bytes : (i : ℕ) → getD s i 0 < 256) (small : length
   path-law at a e h i l = paired-ok _ (omega arith) (closed s bytes (rows-law s bytes pathRows tt) e a i l)
 
   -- one record for an element
-  pub single : (q : Renderer) (L : Look) (kind : ℕ) (p : List ℕ) (end at e : ℕ) → T (memb kind (L .first) && not (L .full)) → T (ltb kind 65536) → length p ≤ length s + 4 → at ≤ e → e ≤ end → 4 + length p ≤ 4 * (e - at) →
+  pub single : (q : Renderer) (L : Look) (kind : ℕ) (p : List ℕ) (end at e : ℕ) → T (among kind (L .first) && not (L .full)) → T (ltb kind 65536) → length p ≤ length s + 4 → at ≤ e → e ≤ end → 4 + length p ≤ 4 * (e - at) →
       ((rs : List Rec) → q (rec kind p ∷ rs) ≡ gives (slice at e s) rs) → Facts s q L end at (rec kind p ∷ []) e
   single q L kind p end at e t tk sh h i b f = record {
     low = h;
     high = i;
     round = λ rs _. f rs;
-    begins = some (and-left (memb kind (L .first)) (not (L .full)) t);
-    closes = λ u. absurd (clash (L .full) u (and-right (memb kind (L .first)) (not (L .full)) t));
+    begins = some (and-left (among kind (L .first)) (not (L .full)) t);
+    closes = λ u. absurd (clash (L .full) u (and-right (among kind (L .first)) (not (L .full)) t));
     bound = omega arith;
     laid = (tk, sh, tt);
   }
@@ -171,11 +182,11 @@ module _ (s : List ℕ) (bytes : (i : ℕ) → getD s i 0 < 256) (small : length
     here = from (rConditionOf (λ rs. rCondition l rs))
 
     -- a list of conditions, by its count
-    listed-ok : (tag kind end at a e : ℕ) → T (memb kind (condLook .first)) → T (ltb kind 65536) → ((p : List ℕ) (rs : List Rec) → here (rec kind p ∷ rs) ≡ within tag (rTimes (count p) (λ x. rCondition l x)) rs) →
-        at + 2 ≤ a → a ≤ e → e ≤ end → end ≤ length s → slice at e s ≡ wrap tag (slice a e s) → {r : Res} → Times s (λ x. rCondition l x) condLook true e a r → Ok s here condLook end at (listed kind e r)
-    listed-ok tag kind end at a e t tk f i j k m w (no-times p o) = refuses p o
-    listed-ok tag kind end at a e t tk f i j k m w (times {bs = bs} {ms = ms} {n = n} c g) = by-test (leb 2 (length ms))
-        (λ _ _. takes {bs = rec kind (le16 (length ms)) ∷ bs} {n = n} (record {
+    listed-ok : (x : Sort) (end at a e : ℕ) → T (among (kindOf x) (condLook .first)) → T (ltb (kindOf x) 65536) → ((p : List ℕ) (rs : List Rec) → here (rec (kindOf x) p ∷ rs) ≡ within (tagOf x) (rTimes (count p) (λ y. rCondition l y)) rs) →
+        at + 2 ≤ a → a ≤ e → e ≤ end → end ≤ length s → slice at e s ≡ wrap (tagOf x) (slice a e s) → {r : Res} → Times s (λ y. rCondition l y) condLook true e a r → Ok s here condLook end at (listed (kindOf x) e r)
+    listed-ok x end at a e t tk f i j k m w (no-times p o) = refuses p o
+    listed-ok x end at a e t tk f i j k m w (times {bs = bs} {ms = ms} {n = n} c g) = by-test (leb 2 (length ms))
+        (λ _ _. takes {bs = rec (kindOf x) (le16 (length ms)) ∷ bs} {n = n} (record {
           low = omega (arith, g .low);
           high = omega (arith, g .high);
           round = λ rs z.
@@ -188,9 +199,9 @@ module _ (s : List ℕ) (bytes : (i : ℕ) → getD s i 0 < 256) (small : length
         }))
         (λ _ _. refuses e (omega arith))
 
-    not-ok : (end at a e : ℕ) → at + 2 ≤ a → a ≤ e → e ≤ end → end ≤ length s → slice at e s ≡ wrap 0xa0 (slice a e s) → Ok s here condLook end at (also (rec 0x0129 [] ∷ []) [] ((inner 0 then ended s) e a))
-    unfolding rConditionOf
-    not-ok end at a e i j k m w = also-map (rec 0x0129 []) [] (closed s bytes (law 0) e a j (omega arith)) (λ bs n g. record {
+    not-ok : (end at a e : ℕ) → at + 2 ≤ a → a ≤ e → e ≤ end → end ≤ length s → slice at e s ≡ wrap (tagOf Not) (slice a e s) → Ok s here condLook end at (also (rec (kindOf Not) [] ∷ []) [] ((inner 0 then ended s) e a))
+    unfolding rConditionOf rConditionAs sortBy
+    not-ok end at a e i j k m w = also-map (rec (kindOf Not) []) [] (closed s bytes (law 0) e a j (omega arith)) (λ bs n g. record {
       low = omega (arith, g .low);
       high = omega (arith, g .high);
       round = λ rs u. let o : n ≡ e = g .closes tt in rw (g .round rs u, o, w) refl;
@@ -200,35 +211,33 @@ module _ (s : List ℕ) (bytes : (i : ℕ) → getD s i 0 < 256) (small : length
       laid = (tt, omega arith, g .laid);
     })
 
+    condition-as : (x : Sort) (end at t a e : ℕ) → Found t x → (t ≡ tagOf Always → a ≡ e) → at + 2 ≤ a → a ≤ e → e ≤ end → end ≤ length s → (T (low t) → slice at e s ≡ wrap t (slice a e s)) → Ok s here condLook end at (conditionAs s inner x t at a e)
+    unfolding conditionAs rConditionOf rConditionAs sortBy sealed
+    condition-as Always end at t a e (found z) n i j k m w =
+        let v : slice a e s ≡ [] = rw (n z) (slice-empty e s) in
+        takes (single here condLook (kindOf Always) [] end at e tt tt (omega arith) (omega arith) k (omega arith) (λ rs. rw (rw z at (w (rw z tt)), v) refl))
+    condition-as Identifier end at t a e (found z) n i j k m w = by-test (leb (e - a) 255) (λ _ _.
+        takes (single here condLook (kindOf Identifier) (slice a e s) end at e tt tt (omega (arith, length-slice a e s (omega arith))) (omega arith) k (omega (arith, length-slice a e s (omega arith))) (λ rs. rw (rw z at (w (rw z tt))) refl)))
+        (λ _ _. refuses at (omega arith))
+    condition-as Not end at t a e (found z) n i j k m w = not-ok end at a e i j k m (rw z at (w (rw z tt)))
+    condition-as And end at t a e (found z) n i j k m w =
+        listed-ok And end at a e tt tt (λ p rs. refl) i j k m (rw z at (w (rw z tt))) (timed inner law just tt (e - a) 0 e a j (omega arith))
+    condition-as Or end at t a e (found z) n i j k m w =
+        listed-ok Or end at a e tt tt (λ p rs. refl) i j k m (rw z at (w (rw z tt))) (timed inner law just tt (e - a) 0 e a j (omega arith))
+    condition-as Other end at t a e f n i j k m w =
+        kept s bytes here condLook (rec (kindOf Other) (slice at e s) ∷ []) end at e
+        (single here condLook (kindOf Other) (slice at e s) end at e tt tt (omega (arith, length-slice at e s (omega arith))) (omega arith) k (omega (arith, length-slice at e s (omega arith))) (λ rs. refl))
+        (inner-placed s bytes t a e j (omega arith))
+
     condition-body : (nth : ℕ) → ElemLaw s (conditionBody s inner nth) here condLook
-    unfolding conditionBody rConditionOf sealed
+    unfolding conditionBody
     condition-body nth end at t a e i j k m w =
-        by-test (eqb t 0x05 && ltb a e) (λ _ _. refuses at (omega arith)) (λ _ x.
+        by-test (eqb t (tagOf Always) && ltb a e) (λ _ _. refuses at (omega arith)) (λ _ x.
         by-test (ltb 255 nth) (λ _ _. refuses at (omega arith)) (λ _ _.
-        by-test (eqb t 0x05) (λ _ y.
-        let z : t ≡ 0x05 = eqb-true t 0x05 y in
-        let h : (eqb t 0x05 && ltb a e) ≡ false = x in
-        let o : ltb a e ≡ false = rw y at h in
-        let p : a ≡ e = omega (arith, ltb-false a e o) in
-        let v : slice a e s ≡ [] = rw p (slice-empty e s) in
-        takes (single here condLook 0x0126 [] end at e tt tt (omega arith) (omega arith) k (omega arith) (λ rs. rw (rw z at (w (rw z tt)), v) refl))) (λ _ _.
-        by-test (eqb t 0x04) (λ _ y.
-        let z : t ≡ 0x04 = eqb-true t 0x04 y in
-        by-test (leb (e - a) 255) (λ _ _.
-        takes (single here condLook 0x0127 (slice a e s) end at e tt tt (omega (arith, length-slice a e s (omega arith))) (omega arith) k (omega (arith, length-slice a e s (omega arith))) (λ rs. rw (rw z at (w (rw z tt))) refl)))
-        (λ _ _. refuses at (omega arith))) (λ _ _.
-        by-test (eqb t 0xa0) (λ _ y.
-        let z : t ≡ 0xa0 = eqb-true t 0xa0 y in
-        not-ok end at a e i j k m (rw z at (w (rw z tt)))) (λ _ _.
-        by-test (eqb t 0xa1) (λ _ y.
-        let z : t ≡ 0xa1 = eqb-true t 0xa1 y in
-        listed-ok 0xa1 0x012a end at a e tt tt (λ p rs. refl) i j k m (rw z at (w (rw z tt))) (timed inner law just tt (e - a) 0 e a j (omega arith))) (λ _ _.
-        by-test (eqb t 0xa2) (λ _ y.
-        let z : t ≡ 0xa2 = eqb-true t 0xa2 y in
-        listed-ok 0xa2 0x012b end at a e tt tt (λ p rs. refl) i j k m (rw z at (w (rw z tt))) (timed inner law just tt (e - a) 0 e a j (omega arith))) (λ _ _.
-        kept s bytes here condLook (rec 0x0128 (slice at e s) ∷ []) end at e
-        (single here condLook 0x0128 (slice at e s) end at e tt tt (omega (arith, length-slice at e s (omega arith))) (omega arith) k (omega (arith, length-slice at e s (omega arith))) (λ rs. refl))
-        (inner-placed s bytes t a e j (omega arith)))))))))
+        condition-as (sortBy tagOf t) end at t a e (found-sort t) (λ z.
+        let h : (eqb t (tagOf Always) && ltb a e) ≡ false = x in
+        let o : ltb a e ≡ false = rw (eq-eqb t (tagOf Always) z) at h in
+        omega (arith, ltb-false a e o)) i j k m w))
 
   condition-law : (l k : ℕ) → Law s (condition s l k) (rCondition l) condLook
   unfolding condition rCondition
@@ -248,7 +257,7 @@ module _ (s : List ℕ) (bytes : (i : ℕ) → getD s i 0 < 256) (small : length
   unfolding rRule
   rule-law = needed s bytes 0x30 rule-body tt
 
-  rules-body : BodyLaw s (rules s) (rAll (0x0125 ∷ []) rRule) rulesLook
+  rules-body : BodyLaw s (rules s) (rAll (mark ruleRows) rRule) rulesLook
   unfolding rules
   rules-body at a e h i l = all-least true toEnd (λ _. component s 0x30 Required (rule s)) to-end (λ _. rule-law) tt l (rule-law e a i l)
 
@@ -277,28 +286,27 @@ module _ (s : List ℕ) (bytes : (i : ℕ) → getD s i 0 < 256) (small : length
   password-body at a e h i l =
       flagged-ok at (omega arith) (seq (seq (rows-law s bytes passwordRows tt) (offered s bytes 0x30 Optional path-law tt tt) tt) (rest-law s bytes 0x019f (0x30 ∷ keptOut passwordRows) tt) tt e a i l)
 
-  value-body : ElemLaw s (certificateValue s) (either (0x0180 ∷ []) (within 0x30 rPath) plain) valueLook
+  value-body : ElemLaw s (certificateValue s) (either (mark pathRows) (within 0x30 rPath) plain) valueLook
   unfolding certificateValue
   value-body end at t a e i j k m w = by-test (eqb t 0x30)
       (λ _ y. let z : t ≡ 0x30 = eqb-true t 0x30 y in
       weaken (elemLook pathLook) valueLook tt (one-way plain tt (ok-map (λ _ _. within-facts 0x30 i j k (rw z at (w (rw z tt))) tt) (path-law at a e (omega arith) j (omega arith)))))
-      (λ _ _. weaken (look (0x0184 ∷ []) false [] false 0) valueLook tt (other-way (0x0180 ∷ []) (within 0x30 rPath) tt (sealed-plain s bytes 0x0184 tt end at t a e i j k m w)))
+      (λ _ _. weaken (look (0x0184 ∷ []) false [] false 0) valueLook tt (other-way (mark pathRows) (within 0x30 rPath) tt (sealed-plain s bytes 0x0184 tt end at t a e i j k m w)))
 
   certificate-body : BodyLaw s (certificate s) rCertificate x509Look
   unfolding certificate rCertificate
   certificate-body at a e h i l = seq (any s bytes value-body) (rest-law s bytes 0x018f [] tt) tt e a i l
 
-  type-body : (entry tag : ℕ) → BodyLaw s (typeBody s entry tag) (rType entry tag) typeLook
+  type-body : (x : ObjectType) → BodyLaw s (typeBody s x) (rType x) typeLook
   unfolding typeBody rType
-  type-body entry tag =
-      by-choice (eqb tag 0x30 && eqb entry 0xa0) (λ _ at a e h i l. weaken (fullLook (elemLook privateLook)) typeLook tt (closed s bytes (needed s bytes 0x30 private-body tt) e a i l)) (λ _.
-      by-choice (eqb tag 0x30 && leb 0xa4 entry && leb entry 0xa6) (λ _ at a e h i l. weaken (fullLook (elemLook x509Look)) typeLook tt (closed s bytes (needed s bytes 0x30 certificate-body tt) e a i l)) (λ _.
-      by-choice (eqb tag 0x30 && eqb entry 0xa8) (λ _ at a e h i l. weaken (fullLook (elemLook passwordLook)) typeLook tt (closed s bytes (needed s bytes 0x30 password-body tt) e a i l))
-      (λ _ at a e h i l. weaken (fullLook (look (0x01a0 ∷ []) false (0x01a0 ∷ []) false 0)) typeLook tt (closed s bytes (any s bytes (sealed-kept s bytes 0x01a0 tt)) e a i l))))
+  type-body PrivateKey = λ at a e h i l. weaken (fullLook (elemLook privateLook)) typeLook tt (closed s bytes (needed s bytes 0x30 private-body tt) e a i l)
+  type-body Certificate = λ at a e h i l. weaken (fullLook (elemLook x509Look)) typeLook tt (closed s bytes (needed s bytes 0x30 certificate-body tt) e a i l)
+  type-body Password = λ at a e h i l. weaken (fullLook (elemLook passwordLook)) typeLook tt (closed s bytes (needed s bytes 0x30 password-body tt) e a i l)
+  type-body Sealed = λ at a e h i l. weaken (fullLook (look (0x01a0 ∷ []) false (0x01a0 ∷ []) false 0)) typeLook tt (closed s bytes (any s bytes (sealed-kept s bytes 0x01a0 tt)) e a i l)
 
   contents-law : (entry tag : ℕ) → Law s (contents s entry tag) (rContents entry tag) contentsLook
   unfolding contents rContents
-  contents-law entry tag = closed s bytes (seq (seq (seq (needed s bytes 0x30 common-body tt) (needed s bytes 0x30 (class-body (classOf entry)) tt) tt) (offered s bytes 0xa0 Optional subclass-body tt tt) tt) (needed s bytes 0xa1 (type-body entry tag) tt) tt)
+  contents-law entry tag = closed s bytes (seq (seq (seq (needed s bytes 0x30 common-body tt) (needed s bytes 0x30 (class-body (classOf entry)) tt) tt) (offered s bytes 0xa0 Optional subclass-body tt tt) tt) (needed s bytes 0xa1 (type-body (typeOf entry tag)) tt) tt)
 
   object-inside : (entry end at t a e : ℕ) → at + 2 ≤ a → a ≤ e → e ≤ end → end ≤ length s → slice at e s ≡ wrap t (slice a e s) →
       Ok s rObject objectLook end at (also (rec 0x0120 (entry ∷ t ∷ []) ∷ []) [] (contents s entry t e a))

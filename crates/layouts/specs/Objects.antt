@@ -12,9 +12,13 @@ use Rattle.elements.specs.Put.{le16}
 use Rattle.layouts.specs.declared.table.Need.the-variants.{Required, Optional}
 use Rattle.layouts.specs.declared.table.Class.{Class}
 use Rattle.layouts.specs.declared.table.Class.the-variants.{Keys, Certificates, Containers, Authentications}
+use Rattle.layouts.specs.declared.table.ObjectType.{ObjectType}
+use Rattle.layouts.specs.declared.table.ObjectType.the-variants.{PrivateKey, Certificate, Password, Sealed}
+use Rattle.layouts.specs.declared.table.Sort.{Sort}
+use Rattle.layouts.specs.declared.table.Sort.the-variants.{Always, Identifier, Not, And, Or, Other}
 use Rattle.layouts.specs.Reading.{Rec, rec, Res, took, fails, also, andThen, _then_, Reader, Body, number}
 use Rattle.layouts.specs.Parts.{component, components, ended, element, inside, rest, sealed, repeat, toEnd, keep, keptOut}
-use Rattle.layouts.specs.Tables.{commonRows, ruleRows, keyRows, certificateRows, authenticationRows, pathRows, privateRows, passwordRows, classOf}
+use Rattle.layouts.specs.Tables.{commonRows, ruleRows, keyRows, certificateRows, authenticationRows, indexRow, lengthRow, pathRows, privateRows, passwordRows, tagOf, kindOf, sortBy, typeOf, classOf}
 
 -- a record of the kind is there
 abbrev pub has : ℕ → List Rec → Bool
@@ -28,7 +32,7 @@ same false b = not b
 -- "8 rule: index without length or the reverse; place is the sequence"
 abbrev pub paired : ℕ → Res → Res
 paired at (fails f p) = fails f p
-paired at (took bs ms n) = choose (same (has 0x0181 bs) (has 0x0182 bs)) (λ _. took bs ms n) (λ _. fails PathPair at)
+paired at (took bs ms n) = choose (same (has (indexRow .kind) bs) (has (lengthRow .kind) bs)) (λ _. took bs ms n) (λ _. fails PathPair at)
 
 -- "8 rule: pwdFlags bits 6 and 7 both set; place is the sequence": pwdFlags is the first record
 abbrev pub flagged : ℕ → Res → Res
@@ -56,18 +60,21 @@ module _ (s : List ℕ) where
   unfoldable pub path : Body
   path at a e = paired at ((components s pathRows then ended s) e a)
 
-  -- "05 00 always 0126; 04 identifier 0127; A0 not, one inside, 0129; A1 and 012A, A2 or 012B, each 2 to 255 inside, 2-byte count; another tag,
-  -- sealed 0128": the header is read, it is the nth of its list, and those inside it are read by `inner`
+  -- "05 00 always; 04 identifier; A0 not, one inside; A1 and, A2 or, each 2 to 255 inside, 2-byte count; another tag, sealed": those inside it are read by `inner`
+  unfoldable pub conditionAs : (ℕ → Reader) → Sort → ℕ → Body
+  conditionAs inner Always t at a e = took (rec (kindOf Always) [] ∷ []) [] e
+  conditionAs inner Identifier t at a e = choose (leb (e - a) 255) (λ _. took (rec (kindOf Identifier) (slice a e s) ∷ []) [] e) (λ _. fails BadSize at)
+  conditionAs inner Not t at a e = also (rec (kindOf Not) [] ∷ []) [] ((inner 0 then ended s) e a)
+  conditionAs inner And t at a e = listed (kindOf And) e (repeat toEnd inner (e - a) 0 e a)
+  conditionAs inner Or t at a e = listed (kindOf Or) e (repeat toEnd inner (e - a) 0 e a)
+  conditionAs inner Other t at a e = sealed s (kindOf Other) [] t at a e
+
+  -- "value, range, then contents": the header is read, it is the nth of its list
   unfoldable pub conditionBody : (ℕ → Reader) → ℕ → ℕ → Body
   conditionBody inner nth t at a e =
-      choose (eqb t 0x05 && ltb a e) (λ _. fails BadNull at)
+      choose (eqb t (tagOf Always) && ltb a e) (λ _. fails BadNull at)
       (λ _. choose (ltb 255 nth) (λ _. fails ManyConditions at)
-      (λ _. choose (eqb t 0x05) (λ _. took (rec 0x0126 [] ∷ []) [] e)
-      (λ _. choose (eqb t 0x04) (λ _. choose (leb (e - a) 255) (λ _. took (rec 0x0127 (slice a e s) ∷ []) [] e) (λ _. fails BadSize at))
-      (λ _. choose (eqb t 0xa0) (λ _. also (rec 0x0129 [] ∷ []) [] ((inner 0 then ended s) e a))
-      (λ _. choose (eqb t 0xa1) (λ _. listed 0x012a e (repeat toEnd inner (e - a) 0 e a))
-      (λ _. choose (eqb t 0xa2) (λ _. listed 0x012b e (repeat toEnd inner (e - a) 0 e a))
-      (λ _. sealed s 0x0128 [] t at a e)))))))
+      (λ _. conditionAs inner (sortBy tagOf t) t at a e))
 
   -- "Conditions in prefix order", the one due at a place, on the first of so many levels, after k of its list
   unfoldable pub condition : ℕ → ℕ → Reader
@@ -117,19 +124,18 @@ module _ (s : List ℕ) where
   unfoldable pub password : Body
   password at a e = flagged at ((components s passwordRows then component s 0x30 Optional path then rest s 0x019f (0x30 ∷ keptOut passwordRows)) e a)
 
-  -- "Type is one element. .. All others sealed, 01A0": by the entry's tag and the object's own
-  unfoldable pub typeBody : ℕ → ℕ → Body
-  typeBody entry tag =
-      choose (eqb tag 0x30 && eqb entry 0xa0) (λ _. inside (component s 0x30 Required privateKey then ended s))
-      (λ _. choose (eqb tag 0x30 && leb 0xa4 entry && leb entry 0xa6) (λ _. inside (component s 0x30 Required certificate then ended s))
-      (λ _. choose (eqb tag 0x30 && eqb entry 0xa8) (λ _. inside (component s 0x30 Required password then ended s))
-      (λ _. inside (element s (sealed s 0x01a0 []) then ended s))))
+  -- "Type is one element. .. All others sealed, 01A0"
+  unfoldable pub typeBody : ObjectType → Body
+  typeBody PrivateKey = inside (component s 0x30 Required privateKey then ended s)
+  typeBody Certificate = inside (component s 0x30 Required certificate then ended s)
+  typeBody Password = inside (component s 0x30 Required password then ended s)
+  typeBody Sealed = inside (element s (sealed s 0x01a0 []) then ended s)
 
   -- "contents common 30, class 30, subclass A0?, type A1"
   unfoldable pub contents : ℕ → ℕ → Reader
   contents entry tag =
       component s 0x30 Required common then component s 0x30 Required (classBody (classOf entry)) then
-      component s 0xa0 Optional subclass then component s 0xa1 Required (typeBody entry tag) then ended s
+      component s 0xa0 Optional subclass then component s 0xa1 Required (typeBody (typeOf entry tag)) then ended s
 
   -- "Object: tag 30 or A0 to A7 .. Book 0120: entry tag, object tag"
   unfoldable pub objectBody : ℕ → ℕ → Body

@@ -12,17 +12,17 @@ use borrow.Author.Tests.{ltb-true, ltb-false, eqb-true, eq-eqb}
 use Rattle.elements.specs.Choice.{choose}
 use Rattle.elements.specs.declared.fault.Fault.{Fault}
 use Rattle.elements.specs.declared.fault.Fault.the-variants.{NotDue, Missing}
-use Rattle.layouts.specs.Reading.{Rec, rec, Res, took, fails, also, andThen, _then_, Reader, Body, memb}
+use Rattle.layouts.specs.Reading.{Rec, rec, Res, took, fails, also, andThen, _then_, Reader, Body}
 use Rattle.elements.specs.declared.answer.Head.{Head}
 use Rattle.elements.specs.declared.answer.Head.the-variants.{At, No}
 use Rattle.elements.specs.Header.{header}
 use Rattle.layouts.specs.declared.table.Need.{Need}
 use Rattle.layouts.specs.declared.table.Need.the-variants.{Required, Optional, Default}
-use Rattle.elements.specs.Sealed.{sealedRun, constructed}
+use Rattle.elements.specs.Sealed.{among, sealedRun, constructed}
 use Rattle.layouts.specs.Parts.{absent, due, surplus, whatever, component, ended, element, keep, rest, sealed}
 use Rattle.elements.specs.Length.{wrap}
 use Rattle.layouts.specs.Render.{gives, Renderer, when, either, within, plain, rKeep}
-use Rattle.layouts.specs.Laws.{Look, look, Fresh, Begins, none, some, avoids, Facts, Ok, refuses, takes, Law, BodyLaw, by-test, and-left, and-right, fresh-left, fresh-right, avoids-memb}
+use Rattle.layouts.specs.Laws.{Look, look, Fresh, Begins, none, some, avoids, Facts, Ok, refuses, takes, Law, BodyLaw, by-test, and-left, and-right, fresh-left, fresh-right, avoids-among}
 use Rattle.elements.specs.declared.answer.Run.{Run}
 use Rattle.elements.specs.declared.answer.Run.the-variants.{Ends, Refused}
 use Rattle.elements.specs.Encodings.{Nested, over, plain as plain-one, deep}
@@ -68,11 +68,11 @@ is-false false h = refl
 -- nothing where what is offered does not come
 pub when-none : (ks : List ℕ) (q : Renderer) (rs : List Rec) → Fresh ks rs → when ks q rs ≡ gives [] rs
 when-none ks q [] f = refl
-when-none ks q (r ∷ rs) f = rw (is-false (memb (r .kind) ks) f) refl
+when-none ks q (r ∷ rs) f = rw (is-false (among (r .kind) ks) f) refl
 
 pub when-some : {ks : List ℕ} {bs : List Rec} (q : Renderer) (rs : List Rec) → Begins ks false bs → when ks q (bs ++ rs) ≡ q (bs ++ rs)
 when-some q rs (none t) = absurd t
-when-some {ks} q rs (some {r = r} m) = rw (is-true (memb (r .kind) ks) m) refl
+when-some {ks} q rs (some {r = r} m) = rw (is-true (among (r .kind) ks) m) refl
 
 pub begins-hard : {ks : List ℕ} {e : Bool} {bs : List Rec} → T (not e) → Begins ks e bs → Begins ks false bs
 begins-hard {e = true} h b = absurd h
@@ -83,7 +83,7 @@ begins-soft e (none t) = absurd t
 begins-soft e (some m) = some m
 
 pub begins-one : (kind : ℕ) (p : List ℕ) (rs : List Rec) (e : Bool) → Begins (kind ∷ []) e (rec kind p ∷ rs)
-begins-one kind p rs e = let m : T (memb kind (kind ∷ [])) = rw (eq-eqb kind kind refl) tt in some m
+begins-one kind p rs e = let m : T (among kind (kind ∷ [])) = rw (eq-eqb kind kind refl) tt in some m
 
 pub no-facts : {s : List ℕ} {q : Renderer} {L : Look} {end at : ℕ} → at ≤ end → T (L .empty) → (T (L .full) → at ≡ end) →
     ((rs : List Rec) → Fresh (L .stop) rs → q rs ≡ gives [] rs) → Facts s q L end at [] at
@@ -140,11 +140,11 @@ pub data Placed (m : ℕ) : Run → Type 0 where
 -- one way or the other
 either-left : {ks : List ℕ} {bs : List Rec} (q p : Renderer) (rs : List Rec) → Begins ks false bs → either ks q p (bs ++ rs) ≡ q (bs ++ rs)
 either-left q p rs (none t) = absurd t
-either-left {ks} q p rs (some {r = r} m) = rw (is-true (memb (r .kind) ks) m) refl
+either-left {ks} q p rs (some {r = r} m) = rw (is-true (among (r .kind) ks) m) refl
 
 either-right : (ks : List ℕ) {l : List ℕ} {bs : List Rec} (q p : Renderer) (rs : List Rec) → T (avoids l ks) → Begins l false bs → either ks q p (bs ++ rs) ≡ p (bs ++ rs)
 either-right ks q p rs a (none t) = absurd t
-either-right ks {l} q p rs a (some {r = r} m) = rw (is-false (memb (r .kind) ks) (avoids-memb (r .kind) l ks a m)) refl
+either-right ks {l} q p rs a (some {r = r} m) = rw (is-false (among (r .kind) ks) (avoids-among (r .kind) l ks a m)) refl
 
 pub one-way : {s : List ℕ} {q : Renderer} {L : Look} {end at : ℕ} {r : Res} (p : Renderer) → T (not (L .empty)) → Ok s q L end at r → Ok s (either (L .first) q p) L end at r
 one-way p t (refuses x h) = refuses x h

@@ -1,9 +1,7 @@
 -- Records of the book, and what reading a part answers.
 use Prim.Native.Nat.{ℕ, _+_, _*_}
 use mathlib.Core.List.{List, [], _∷_, _++_}
-use mathlib.Core.Bool.{Bool, false, _||_}
 use lib.ListN.{take}
-use lib.Dec.{eqb}
 use Rattle.elements.specs.declared.fault.Fault.{Fault}
 
 -- a record of the book: its kind and its payload
@@ -40,10 +38,6 @@ andThen (fails f p) k = fails f p
 -- strictly one part after the other
 abbrev pub _then_ : Reader → Reader → Reader
 _then_ p q = λ end at. andThen (p end at) (λ n. q end n)
-
-abbrev pub memb : ℕ → List ℕ → Bool
-memb k [] = false
-memb k (x ∷ xs) = eqb k x || memb k xs
 
 -- "All little-endian."
 abbrev pub unle : List ℕ → ℕ

@@ -2,7 +2,7 @@
 use Prim.Native.Nat.{ℕ}
 use mathlib.Core.Path.{_≡_, refl}
 use mathlib.Core.List.{List, [], _∷_, map}
-use Rattle.layouts.specs.Computing.{refusal, reading}
+use Rattle.layouts.specs.Computing.{refusal, answered, reading}
 
 pub record Case : Type 0 where
   pub dump : List ℕ
@@ -88,5 +88,5 @@ table =
 
 -- each is refused with its number, at its place
 pub all-refused : map (λ c. reading (c .dump)) table ≡ map (λ c. refusal (c .number) (c .place)) table
-unfolding table reading
+unfolding table answered
 all-refused = refl

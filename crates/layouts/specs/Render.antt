@@ -1,9 +1,9 @@
 -- The one dump that could have these records. Nothing is checked: what comes next is known by the next record's kind.
 use Prim.Native.Nat.{ℕ, zero, suc, _-_, _%_}
 use mathlib.Core.List.{List, [], _∷_, _++_}
-use mathlib.Core.Bool.{false, _&&_}
+use mathlib.Core.Bool.{false}
 use lib.ListN.{length, getD, take, drop, replicate}
-use lib.Dec.{ltb, leb, eqb}
+use lib.Dec.{ltb, eqb}
 use Rattle.elements.specs.declared.answer.Form.{Form}
 use Rattle.elements.specs.declared.answer.Form.the-variants as form
 use Rattle.elements.specs.Choice.{choose}
@@ -15,8 +15,13 @@ use Rattle.elements.specs.Record.{recordBytes}
 use Rattle.layouts.specs.declared.table.Row.{Row}
 use Rattle.layouts.specs.declared.table.Class.{Class}
 use Rattle.layouts.specs.declared.table.Class.the-variants.{Keys, Certificates, Containers, Authentications}
-use Rattle.layouts.specs.Reading.{Rec, memb, count, number}
-use Rattle.layouts.specs.Tables.{ciaRows, commonRows, ruleRows, keyRows, certificateRows, authenticationRows, pathRows, privateRows, passwordRows, classOf}
+use Rattle.elements.specs.Sealed.{among}
+use Rattle.layouts.specs.declared.table.ObjectType.{ObjectType}
+use Rattle.layouts.specs.declared.table.ObjectType.the-variants.{PrivateKey, Certificate, Password, Sealed}
+use Rattle.layouts.specs.declared.table.Sort.{Sort}
+use Rattle.layouts.specs.declared.table.Sort.the-variants.{Always, Identifier, Not, And, Or, Other}
+use Rattle.layouts.specs.Reading.{Rec, count, number}
+use Rattle.layouts.specs.Tables.{ciaRows, commonRows, ruleRows, keyRows, certificateRows, authenticationRows, pathRows, privateRows, passwordRows, mark, tagOf, kindOf, sortBy, typeOf, classOf}
 use Rattle.layouts.specs.Files.{Name, namesOf}
 
 -- bytes, and the records that are left
@@ -42,12 +47,12 @@ within t q rs = let x = q rs in gives (wrap t (x .bytes)) (x .left)
 -- if the next record is of one of the kinds
 abbrev pub when : List ℕ → Renderer → Renderer
 when ks q [] = gives [] []
-when ks q (r ∷ rs) = choose (memb (r .kind) ks) (λ _. q (r ∷ rs)) (λ _. gives [] (r ∷ rs))
+when ks q (r ∷ rs) = choose (among (r .kind) ks) (λ _. q (r ∷ rs)) (λ _. gives [] (r ∷ rs))
 
 -- one way if the next record is of one of the kinds, else the other
 abbrev pub either : List ℕ → Renderer → Renderer → Renderer
 either ks q p [] = p []
-either ks q p (r ∷ rs) = choose (memb (r .kind) ks) (λ _. q (r ∷ rs)) (λ _. p (r ∷ rs))
+either ks q p (r ∷ rs) = choose (among (r .kind) ks) (λ _. q (r ∷ rs)) (λ _. p (r ∷ rs))
 
 -- from the next record
 abbrev pub from : (ℕ → List ℕ → Renderer) → Renderer
@@ -91,14 +96,16 @@ rTimes (suc k) q = q next rTimes k q
 unfoldable pub rPath : Renderer
 rPath = rRows pathRows
 
+unfoldable pub rConditionAs : Renderer → Sort → List ℕ → Renderer
+rConditionAs q Always p rs = gives (wrap (tagOf Always) []) rs
+rConditionAs q Identifier p rs = gives (wrap (tagOf Identifier) p) rs
+rConditionAs q Not p rs = within (tagOf Not) q rs
+rConditionAs q And p rs = within (tagOf And) (rTimes (count p) q) rs
+rConditionAs q Or p rs = within (tagOf Or) (rTimes (count p) q) rs
+rConditionAs q Other p rs = gives p rs
+
 unfoldable pub rConditionOf : Renderer → ℕ → List ℕ → Renderer
-rConditionOf q k p rs =
-    choose (eqb k 0x0126) (λ _. gives (wrap 0x05 []) rs)
-    (λ _. choose (eqb k 0x0127) (λ _. gives (wrap 0x04 p) rs)
-    (λ _. choose (eqb k 0x0129) (λ _. within 0xa0 q rs)
-    (λ _. choose (eqb k 0x012a) (λ _. within 0xa1 (rTimes (count p) q) rs)
-    (λ _. choose (eqb k 0x012b) (λ _. within 0xa2 (rTimes (count p) q) rs)
-    (λ _. gives p rs)))))
+rConditionOf q k p rs = rConditionAs q (sortBy kindOf k) p rs
 
 unfoldable pub rCondition : ℕ → Renderer
 rCondition zero = nothing
@@ -108,7 +115,7 @@ unfoldable pub rRule : Renderer
 rRule = within 0x30 (rRows ruleRows next rCondition 8 next rKeep 0x012c)
 
 unfoldable pub rCommon : Renderer
-rCommon = rRows commonRows next when (0x0125 ∷ []) (within 0x30 (rAll (0x0125 ∷ []) rRule)) next rKeep 0x012f
+rCommon = rRows commonRows next when (mark ruleRows) (within 0x30 (rAll (mark ruleRows) rRule)) next rKeep 0x012f
 
 unfoldable pub rClass : Class → Renderer
 rClass Keys = rRows keyRows next rKeep 0x013f
@@ -117,25 +124,24 @@ rClass Authentications = rRows authenticationRows next rKeep 0x015f
 rClass Containers = rKeep 0x0160
 
 unfoldable pub rPrivate : Renderer
-rPrivate = when (0x0180 ∷ []) (within 0x30 rPath) next rRows privateRows next rKeep 0x018f
+rPrivate = when (mark pathRows) (within 0x30 rPath) next rRows privateRows next rKeep 0x018f
 
 unfoldable pub rCertificate : Renderer
-rCertificate = either (0x0180 ∷ []) (within 0x30 rPath) plain next rKeep 0x018f
+rCertificate = either (mark pathRows) (within 0x30 rPath) plain next rKeep 0x018f
 
 unfoldable pub rPassword : Renderer
-rPassword = rRows passwordRows next when (0x0180 ∷ []) (within 0x30 rPath) next rKeep 0x019f
+rPassword = rRows passwordRows next when (mark pathRows) (within 0x30 rPath) next rKeep 0x019f
 
-unfoldable pub rType : ℕ → ℕ → Renderer
-rType entry tag =
-    choose (eqb tag 0x30 && eqb entry 0xa0) (λ _. within 0x30 rPrivate)
-    (λ _. choose (eqb tag 0x30 && leb 0xa4 entry && leb entry 0xa6) (λ _. within 0x30 rCertificate)
-    (λ _. choose (eqb tag 0x30 && eqb entry 0xa8) (λ _. within 0x30 rPassword)
-    (λ _. rKeep 0x01a0)))
+unfoldable pub rType : ObjectType → Renderer
+rType PrivateKey = within 0x30 rPrivate
+rType Certificate = within 0x30 rCertificate
+rType Password = within 0x30 rPassword
+rType Sealed = rKeep 0x01a0
 
 unfoldable pub rContents : ℕ → ℕ → Renderer
 rContents entry tag =
     within 0x30 rCommon next within 0x30 (rClass (classOf entry)) next
-    when (0x0170 ∷ []) (within 0xa0 plain) next within 0xa1 (rType entry tag)
+    when (0x0170 ∷ []) (within 0xa0 plain) next within 0xa1 (rType (typeOf entry tag))
 
 unfoldable pub rObject : Renderer
 rObject = from (λ k p. within (getD p 1 0) (rContents (getD p 0 0) (getD p 1 0)))

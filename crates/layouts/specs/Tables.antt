@@ -2,11 +2,18 @@
 use Prim.Native.Nat.{ℕ, _-_}
 use lib.ListN.{getD}
 use mathlib.Core.List.{List, [], _∷_}
+use mathlib.Core.Bool.{_&&_}
+use lib.Dec.{eqb, leb}
+use Rattle.elements.specs.Choice.{choose}
 use Rattle.elements.specs.declared.answer.Form.the-variants.{Integer, Bits, Boolean, Octets, Text, Time}
 use Rattle.layouts.specs.declared.table.Need.the-variants.{Required, Optional, Default}
 use Rattle.layouts.specs.declared.table.Row.{Row}
 use Rattle.layouts.specs.declared.table.Class.{Class}
 use Rattle.layouts.specs.declared.table.Class.the-variants.{Keys, Certificates, Containers, Authentications}
+use Rattle.layouts.specs.declared.table.ObjectType.{ObjectType}
+use Rattle.layouts.specs.declared.table.ObjectType.the-variants.{PrivateKey, Certificate, Password, Sealed}
+use Rattle.layouts.specs.declared.table.Sort.{Sort}
+use Rattle.layouts.specs.declared.table.Sort.the-variants.{Always, Identifier, Not, And, Or, Other}
 use Rattle.layouts.specs.Parts.{row}
 
 -- CIAInfo
@@ -33,7 +40,7 @@ commonRows =
     row 0x03 0x0122 Bits Optional 0 0 ∷
     -- authId
     row 0x04 0x0123 Octets Optional 0 255 ∷
-    -- userConsent
+    -- userConsent: Annex A has 1 to cia-ub-userConsent, 32,767, and it decides over "1 to 15"
     row 0x02 0x0124 Integer Optional 1 32767 ∷
     []
 
@@ -71,26 +78,17 @@ certificateRows =
     row 0x01 0x0141 Boolean (Default 0) 0 0 ∷
     []
 
--- CommonAuthenticationObjectAttributes
+-- CommonAuthenticationObjectAttributes: authId is the object's own
+abbrev pub ownIdRow : Row
+ownIdRow = row 0x04 0x0150 Octets Optional 0 255
+
 abbrev pub authenticationRows : List Row
 authenticationRows =
-    -- authId
-    row 0x04 0x0150 Octets Optional 0 255 ∷
+    ownIdRow ∷
     -- authReference
     row 0x02 0x0151 Integer Optional 0 255 ∷
     -- seIdentifier
     row 0x80 0x0152 Integer Optional 0 255 ∷
-    []
-
--- Path
-abbrev pub pathRows : List Row
-pathRows =
-    -- efidOrPath
-    row 0x04 0x0180 Octets Required 0 64 ∷
-    -- index
-    row 0x02 0x0181 Integer Optional 0 65535 ∷
-    -- length
-    row 0x80 0x0182 Integer Optional 0 65535 ∷
     []
 
 -- PrivateRSAKeyAttributes, behind its Path
@@ -119,6 +117,63 @@ passwordRows =
     -- lastPasswordChange
     row 0x18 0x0197 Time Optional 0 0 ∷
     []
+
+-- Path: index and length, "both or neither"
+abbrev pub indexRow : Row
+indexRow = row 0x02 0x0181 Integer Optional 0 65535
+
+abbrev pub lengthRow : Row
+lengthRow = row 0x80 0x0182 Integer Optional 0 65535
+
+abbrev pub pathRows : List Row
+pathRows =
+    -- efidOrPath
+    row 0x04 0x0180 Octets Required 0 64 ∷
+    indexRow ∷
+    lengthRow ∷
+    []
+
+-- the kind of a table's first record: by it a renderer knows that the sequence comes
+abbrev pub mark : List Row → List ℕ
+mark [] = []
+mark (r ∷ rs) = r .kind ∷ []
+
+-- "Conditions in prefix order: 05 00 always 0126; 04 identifier 0127; A0 not .. 0129; A1 and 012A, A2 or 012B ..; another tag, sealed 0128"
+abbrev pub tagOf : Sort → ℕ
+tagOf Always = 0x05
+tagOf Identifier = 0x04
+tagOf Not = 0xa0
+tagOf And = 0xa1
+tagOf Or = 0xa2
+tagOf Other = 0
+
+abbrev pub kindOf : Sort → ℕ
+kindOf Always = 0x0126
+kindOf Identifier = 0x0127
+kindOf Not = 0x0129
+kindOf And = 0x012a
+kindOf Or = 0x012b
+kindOf Other = 0x0128
+
+-- the sort of condition that has this tag, or this kind
+unfoldable pub sortBy : (Sort → ℕ) → ℕ → Sort
+sortBy f x =
+    choose (eqb x (f Always)) (λ _. Always)
+    (λ _. choose (eqb x (f Identifier)) (λ _. Identifier)
+    (λ _. choose (eqb x (f Not)) (λ _. Not)
+    (λ _. choose (eqb x (f And)) (λ _. And)
+    (λ _. choose (eqb x (f Or)) (λ _. Or)
+    (λ _. Other)))))
+
+-- "Private key of tag 30 .. Certificate of tag 30 .. Password (authentication, tag 30) .. All others sealed": by the entry's tag and the object's own
+unfoldable pub typeOf : ℕ → ℕ → ObjectType
+typeOf entry tag =
+    choose (eqb tag 0x30)
+    (λ _. choose (eqb entry 0xa0) (λ _. PrivateKey)
+    (λ _. choose (leb 0xa4 entry && leb entry 0xa6) (λ _. Certificate)
+    (λ _. choose (eqb entry 0xa8) (λ _. Password)
+    (λ _. Sealed))))
+    (λ _. Sealed)
 
 -- "which entry tag reads which class": A0 to A8
 abbrev pub classes : List Class

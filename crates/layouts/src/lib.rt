@@ -3,4 +3,6 @@ mod table;
 
 pub use table::Class;
 pub use table::Need;
+pub use table::ObjectType;
 pub use table::Row;
+pub use table::Sort;

@@ -24,3 +24,21 @@ pub enum Class {
     Containers,
     Authentications,
 }
+
+// What stands in an object's type element.
+pub enum ObjectType {
+    PrivateKey,
+    Certificate,
+    Password,
+    Sealed,
+}
+
+// What a condition is.
+pub enum Sort {
+    Always,
+    Identifier,
+    Not,
+    And,
+    Or,
+    Other,
+}
