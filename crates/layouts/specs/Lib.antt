@@ -7,6 +7,7 @@ pub mod Book
 pub mod Render
 pub mod Write
 pub mod Meaning
+pub mod Did
 pub mod Demand2
 pub mod Computing
 pub mod Examples

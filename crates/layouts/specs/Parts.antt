@@ -130,9 +130,13 @@ module _ (s : List ℕ) where
   unfoldable pub rest : ℕ → List ℕ → Reader
   rest kind tags end at = choose (ltb at end) (λ _. keep (rec kind (slice at end s) ∷ []) end (sealedRun 16 s tags at end)) (λ _. took [] [] at)
 
+  -- the contents of a sealed element on the first level
+  abbrev pub innerRun : ℕ → ℕ → ℕ → Run
+  innerRun t a e = choose (constructed t) (λ _. sealedRun 15 s [] a e) (λ _. run.Ends e)
+
   -- a sealed element on the first level, whole, behind what stands in front of it in its record
   unfoldable pub sealed : ℕ → List ℕ → ℕ → Body
-  sealed kind front t at a e = keep (rec kind (front ++ slice at e s) ∷ []) e (choose (constructed t) (λ _. sealedRun 15 s [] a e) (λ _. run.Ends e))
+  sealed kind front t at a e = keep (rec kind (front ++ slice at e s) ∷ []) e (innerRun t a e)
 
 -- the tags that a rest does not have
 unfoldable pub keptOut : List Row → List ℕ

@@ -12,6 +12,8 @@ use Rattle.layouts.specs.declared.table.Class.{Class}
 use Rattle.layouts.specs.declared.table.Class.the-variants.{Keys, Certificates, Containers, Authentications}
 use Rattle.layouts.specs.declared.table.ObjectType.{ObjectType}
 use Rattle.layouts.specs.declared.table.ObjectType.the-variants.{PrivateKey, Certificate, Password, Sealed}
+use Rattle.layouts.specs.declared.table.Sequence.{Sequence}
+use Rattle.layouts.specs.declared.table.Sequence.the-variants.{Info, Common, Rule, Key, Certificate as CertificateAttributes, Authentication, PrivateKey as PrivateKeyAttributes, Password as PasswordAttributes, Path}
 use Rattle.layouts.specs.declared.table.Sort.{Sort}
 use Rattle.layouts.specs.declared.table.Sort.the-variants.{Always, Identifier, Not, And, Or, Other}
 use Rattle.layouts.specs.Parts.{row}
@@ -132,6 +134,22 @@ pathRows =
     indexRow ∷
     lengthRow ∷
     []
+
+-- "fixed tables": of each sequence
+abbrev pub rowsOf : Sequence → List Row
+rowsOf Info = ciaRows
+rowsOf Common = commonRows
+rowsOf Rule = ruleRows
+rowsOf Key = keyRows
+rowsOf CertificateAttributes = certificateRows
+rowsOf Authentication = authenticationRows
+rowsOf PrivateKeyAttributes = privateRows
+rowsOf PasswordAttributes = passwordRows
+rowsOf Path = pathRows
+
+-- what stands behind a table's end
+abbrev pub noRow : Row
+noRow = row 0 0 Boolean Required 0 0
 
 -- the kind of a table's first record: by it a renderer knows that the sequence comes
 abbrev pub mark : List Row → List ℕ

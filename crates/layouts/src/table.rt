@@ -17,6 +17,19 @@ pub struct Row {
     pub high: u32,
 }
 
+// The sequences whose components stand in tables.
+pub enum Sequence {
+    Info,
+    Common,
+    Rule,
+    Key,
+    Certificate,
+    Authentication,
+    PrivateKey,
+    Password,
+    Path,
+}
+
 // What the objects of an EF.OD entry are.
 pub enum Class {
     Keys,

@@ -1,0 +1,32 @@
+-- Records put in pieces: their start, and then what their payload is made of.
+use Prim.Native.Nat.{ℕ, suc, _+_, _-_, _≤_}
+use mathlib.Core.Path.{_≡_, refl}
+use mathlib.Core.List.{List, [], _∷_, _++_}
+use native.Mathlib.Omega.{arith}
+use lib.ListN.{length}
+use lib.Seq.{slice, length-slice}
+use Rattle.elements.specs.Put.{Put, le16}
+use Rattle.elements.specs.PutLaws.{put-as, put-then, put-put}
+use Rattle.elements.specs.Record.{recordBytes}
+
+module _ (kind : ℕ) {a b : List ℕ} {o p : ℕ} where
+  pub record-bare : Put a b o p (le16 (0 + 2) ++ le16 kind) → Put a b o p (recordBytes kind [])
+  unfolding recordBytes
+  record-bare f = put-as f refl
+
+  module _ {c : List ℕ} {q x : ℕ} where
+    pub record-one : Put a b o p (le16 (1 + 2) ++ le16 kind) → Put b c p q (x ∷ []) → Put a c o q (recordBytes kind (x ∷ []))
+    unfolding recordBytes
+    record-one f g = put-then f g refl
+
+    module _ {d : List ℕ} {r y : ℕ} where
+      pub record-two : Put a b o p (le16 (2 + 2) ++ le16 kind) → Put b c p q (x ∷ []) → Put c d q r (y ∷ []) → Put a d o r (recordBytes kind (x ∷ y ∷ []))
+      unfolding recordBytes
+      record-two f g h = put-then (put-put f g) h refl
+
+      pub record-behind : {m : List ℕ} {t : ℕ} (s : List ℕ) (i e : ℕ) → e ≤ length s → Put a b o p (le16 (e - i + 2 + 2) ++ le16 kind) → Put b c p q (x ∷ []) → Put c d q r (y ∷ []) → Put d m r t (slice i e s) →
+          Put a m o t (recordBytes kind (x ∷ y ∷ slice i e s))
+      unfolding recordBytes
+      record-behind s i e l f g h k =
+          let n : suc (suc (length (slice i e s))) + 2 ≡ e - i + 2 + 2 = omega (arith, length-slice i e s l) in
+          put-then (put-put (put-put f g) h) k (rw n refl)
