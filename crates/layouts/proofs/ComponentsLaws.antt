@@ -32,7 +32,7 @@ pub record Along (s : List ℕ) (rs : List Row) (a b : List ℕ) (i last end at 
   pub done : Did a b o at end before (Took n p)
   pub rest : andThen before (λ m. components s (slice k last rs) end m) ≡ components s (slice i last rs) end at
 
-also-none : (w : Res) → also [] [] w ≡ w
+pub also-none : (w : Res) → also [] [] w ≡ w
 also-none (took bs ms n) = refl
 also-none (fails f p) = refl
 
@@ -50,7 +50,7 @@ along-none s rs a i last end at o h l j k = record {
   rest = also-none (components s (slice i last rs) end at);
 }
 
-also-also : (bs cs : List Rec) (ms ns : List ℕ) (w : Res) → also bs ms (also cs ns w) ≡ also (bs ++ cs) (ms ++ ns) w
+pub also-also : (bs cs : List Rec) (ms ns : List ℕ) (w : Res) → also bs ms (also cs ns w) ≡ also (bs ++ cs) (ms ++ ns) w
 also-also bs cs ms ns (took ds ps n) = rw (append-assoc bs cs ds, append-assoc ms ns ps) refl
 also-also bs cs ms ns (fails f p) = refl
 

@@ -22,7 +22,7 @@ use Rattle.layouts.specs.declared.table.Need.{Need}
 use Rattle.layouts.specs.Reading.{Rec, rec, Res, took, fails, also, andThen, Body}
 use Rattle.layouts.specs.Parts.{component, element, whatever}
 use Rattle.layouts.specs.Book.{encode}
-use Rattle.layouts.specs.Did.{Did, did, fell, Stays, Inside, Dues}
+use Rattle.layouts.specs.Did.{Did, did, fell, Forward, Stays, Inside, Dues}
 
 pub encode-append : (bs cs : List Rec) → encode (bs ++ cs) ≡ encode bs ++ encode cs
 unfolding encode
@@ -45,6 +45,11 @@ did-none a o at end h l = did {n = at} (put-none a o) (omega arith) h l
 -- one record
 pub did-one : {a b : List ℕ} {o q : ℕ} (k : ℕ) (p : List ℕ) (at e : ℕ) → Put a b o q (recordBytes k p) → at ≤ e → q ≤ 8 * e → Did a b o at e (took (rec k p ∷ []) [] e) (Took e q)
 did-one k p at e f h l = did {n = e} (put-as f (sym (encode-one k p))) h (omega arith) l
+
+-- a record in front of what is inside an element
+pub did-front : {a b c : List ℕ} {o q x e : ℕ} {w : Res} {r : Part} (k : ℕ) (p : List ℕ) (at : ℕ) → Put a b o q (recordBytes k p) → at + 2 ≤ x → Did b c q x e w r → Did a c o at e (also (rec k p ∷ []) [] w) r
+did-front k p at f h (did {bs = bs} {n = n} g i j l) = did {n = n} (put-then f g (sym (encode-append (rec k p ∷ []) bs ∙ rw (encode-one k p) refl))) (omega arith) j l
+did-front k p at f h (fell e) = fell (e ∙ put-length f)
 
 module _ {a b : List ℕ} {o at end : ℕ} {w : Res} {r : Part} (d : Did a b o at end w r) where
   pub did-same : length b ≡ length a
@@ -110,6 +115,16 @@ module _ {a b : List ℕ} {o at end : ℕ} {w : Res} {r : Part} (d : Did a b o a
       go : {w : Res} → Did a b o at end w (Fails f p) → Did a b o at end (andThen w k) (Fails f p)
       go (fell e) = fell e
 
+-- what was read lies behind a header
+pub forward-in : {a b : List ℕ} {o x e : ℕ} {w : Res} {r : Part} (at : ℕ) → at + 2 ≤ x → Did a b o x e w r → Forward at r
+forward-in at h d = record { is = λ n q t. omega (arith, did-low d t) }
+
+pub forward-inside : {a b : List ℕ} {o x e : ℕ} {g : Body} {r : Part} (at : ℕ) → at + 2 ≤ x → Inside a b o x e g r → Forward at r
+forward-inside at h d = forward-in at h (d .is at)
+
+pub forward-fails : (at : ℕ) (f : Fault) (p : ℕ) → Forward at (Fails f p)
+forward-fails at f p = record { is = λ n q t. let z : _≡_ {A = ℕ} 0 1 = cc in absurd (omega arith) }
+
 -- a component, by what is due
 module _ {s : List ℕ} {tag : ℕ} {need : Need} {end at : ℕ} {r : Due} (u : Dues s tag need end at r) where
   pub due-low : {x e : ℕ} → r ≡ Here x e → at + 2 ≤ x
@@ -121,6 +136,9 @@ module _ {s : List ℕ} {tag : ℕ} {need : Need} {end at : ℕ} {r : Due} (u : 
   pub due-high : {x e n : ℕ} → r ≡ Here x e → end ≤ n → e ≤ n
   due-high {x} {e} t h = omega (arith, u .inside x e t .2)
 
+  pub due-room : {x e o : ℕ} → r ≡ Here x e → o ≤ 8 * at → o ≤ 8 * x
+  due-room {x} {e} t h = omega (arith, u .inside x e t .0)
+
   module _ (g : Body) where
     pub due-fails : (a : List ℕ) (o : ℕ) {f : Fault} {p : ℕ} → r ≡ Not f p → Did a a o at end (component s tag need g end at) (Fails f p)
     due-fails a o t = rw (u .is g, t) (fell refl)
@@ -131,12 +149,29 @@ module _ {s : List ℕ} {tag : ℕ} {need : Need} {end at : ℕ} {r : Due} (u : 
     pub due-here : {a b : List ℕ} {o x e : ℕ} {y : Part} → r ≡ Here x e → Did a b o at e (g at x e) y → Did a b o at end (component s tag need g end at) y
     due-here {x = x} {e = e} t d = rw (u .is g, t) (did-widen d (omega arith) (u .inside x e t .2))
 
+    pub due-from : {a b : List ℕ} {o x e : ℕ} {y : Part} → r ≡ Here x e → Did a b o x e (g at x e) y → Did a b o at end (component s tag need g end at) y
+    due-from {x = x} {e = e} t d = rw (u .is g, t) (did-widen d (omega (arith, u .inside x e t .0)) (u .inside x e t .2))
+
     pub due-in : {a b : List ℕ} {o x e : ℕ} {y : Part} → r ≡ Here x e → Inside a b o x e g y → Did a b o at end (component s tag need g end at) y
     due-in {x = x} {e = e} t d = rw (u .is g, t) (did-widen (d .is at) (omega (arith, u .inside x e t .0)) (u .inside x e t .2))
 
+-- where a header's element lies
+module _ (s : List ℕ) (end at : ℕ) {h : Head} (k : h ≡ header s at end) {t x e : ℕ} (q : h ≡ At t x e) where
+  pub head-low : at + 2 ≤ x
+  head-low = header-in s at end (sym k ∙ q) .0
+
+  pub head-mid : x ≤ e
+  head-mid = header-in s at end (sym k ∙ q) .1
+
+  pub head-high : {n : ℕ} → end ≤ n → e ≤ n
+  head-high l = omega (arith, header-in s at end (sym k ∙ q) .2)
+
+  pub head-room : {o : ℕ} → o ≤ 8 * at → o ≤ 8 * x
+  head-room l = omega (arith, header-in s at end (sym k ∙ q) .0)
+
 -- an element whatever its tag, by its header
 module _ (s : List ℕ) (g : ℕ → Body) (end at : ℕ) {h : Head} (k : h ≡ header s at end) where
-  by-header : element s g end at ≡ whatever g at (header s at end)
+  pub by-header : element s g end at ≡ whatever g at (header s at end)
   unfolding element header
   by-header = by-less at end (λ l. rw (lt-ltb at end l) refl) (λ l. rw (le-ltb at end l, le-leb end at l) refl)
 
@@ -144,14 +179,5 @@ module _ (s : List ℕ) (g : ℕ → Body) (end at : ℕ) {h : Head} (k : h ≡ 
   element-fails a o q = rw (by-header, sym k ∙ q) (fell refl)
 
   module _ {t x e : ℕ} (q : h ≡ At t x e) where
-    pub head-low : at + 2 ≤ x
-    head-low = header-in s at end (sym k ∙ q) .0
-
-    pub head-mid : x ≤ e
-    head-mid = header-in s at end (sym k ∙ q) .1
-
-    pub head-high : {n : ℕ} → end ≤ n → e ≤ n
-    head-high l = omega (arith, header-in s at end (sym k ∙ q) .2)
-
-    pub element-here : {a b : List ℕ} {o : ℕ} {y : Part} → Did a b o at e (g t at x e) y → Did a b o at end (element s g end at) y
-    element-here d = rw (by-header, sym k ∙ q) (did-widen d (omega arith) (header-in s at end (sym k ∙ q) .2))
+    pub element-here : {a b : List ℕ} {o : ℕ} {y : Part} → Did a b o x e (g t at x e) y → Did a b o at end (element s g end at) y
+    element-here d = rw (by-header, sym k ∙ q) (did-widen d (omega (arith, header-in s at end (sym k ∙ q) .0)) (header-in s at end (sym k ∙ q) .2))

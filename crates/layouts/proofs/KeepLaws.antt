@@ -58,10 +58,10 @@ module _ (s : List ℕ) (t a e : ℕ) where
   run-primitive h = rw (ne-eqb (t / 32 % 2) 1 h) refl
 
 module _ (s : List ℕ) (kind t at x e : ℕ) {r : Run} (k : r ≡ innerRun s t x e) where
-  pub sealed-bad : (a : List ℕ) (o : ℕ) {f : Fault} {p : ℕ} → r ≡ Refused f p → Did a a o at e (sealed s kind [] t at x e) (Fails f p)
+  pub sealed-bad : (a : List ℕ) (o : ℕ) {f : Fault} {p : ℕ} → r ≡ Refused f p → Did a a o x e (sealed s kind [] t at x e) (Fails f p)
   unfolding sealed
   sealed-bad a o q = rw (sym k ∙ q) (fell refl)
 
-  pub sealed-put : {a b : List ℕ} {o p i : ℕ} → r ≡ Ends i → at + 2 ≤ x → x ≤ e → o ≤ 8 * at → p ≡ o + 4 + (e - at) → Put a b o p (recordBytes kind (slice at e s)) → Did a b o at e (sealed s kind [] t at x e) (Took e p)
+  pub sealed-put : {a b : List ℕ} {o p i : ℕ} → r ≡ Ends i → at + 2 ≤ x → x ≤ e → o ≤ 8 * at → p ≡ o + 4 + (e - at) → Put a b o p (recordBytes kind (slice at e s)) → Did a b o x e (sealed s kind [] t at x e) (Took e p)
   unfolding sealed
-  sealed-put q h i l n f = rw (sym k ∙ q) (did-one kind (slice at e s) at e f (omega arith) (omega arith))
+  sealed-put q h i l n f = rw (sym k ∙ q) (did-one kind (slice at e s) x e f i (omega arith))

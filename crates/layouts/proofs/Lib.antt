@@ -4,3 +4,15 @@ pub mod DidLaws
 pub mod RowLaws
 pub mod ComponentsLaws
 pub mod KeepLaws
+pub mod RepeatLaws
+pub mod ClassLaws
+pub mod FillLaws
+pub mod ConditionLaws
+pub mod CommonLaws
+pub mod ObjectLaws
+pub mod EntryLaws
+pub mod LiesLaws
+pub mod ScanLaws
+pub mod FrameLaws
+pub mod PathLaws
+pub mod KindLaws

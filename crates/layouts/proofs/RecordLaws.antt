@@ -19,6 +19,10 @@ module _ (kind : ℕ) {a b : List ℕ} {o p : ℕ} where
     unfolding recordBytes
     record-one f g = put-then f g refl
 
+    pub record-fill : (n : ℕ) {d : List ℕ} {r : ℕ} → Put a b o p (le16 (3 + 2) ++ le16 kind) → Put b c p q (x ∷ []) → Put c d q r (le16 n) → Put a d o r (recordBytes kind (x ∷ le16 n))
+    unfolding recordBytes
+    record-fill n f g h = put-then (put-put f g) h refl
+
     module _ {d : List ℕ} {r y : ℕ} where
       pub record-two : Put a b o p (le16 (2 + 2) ++ le16 kind) → Put b c p q (x ∷ []) → Put c d q r (y ∷ []) → Put a d o r (recordBytes kind (x ∷ y ∷ []))
       unfolding recordBytes

@@ -8,6 +8,8 @@ pub mod Render
 pub mod Write
 pub mod Meaning
 pub mod Did
+pub mod Scan
+pub mod Frame
 pub mod Demand2
 pub mod Computing
 pub mod Examples

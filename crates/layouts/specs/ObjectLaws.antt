@@ -22,7 +22,7 @@ use Rattle.layouts.specs.Parts.{component, ended, element, sealed, toEnd
 use Rattle.layouts.specs.declared.table.Class.{Class}
 use Rattle.layouts.specs.declared.table.Class.the-variants.{Keys, Certificates, Containers, Authentications}
 use Rattle.layouts.specs.Tables.{commonRows, ruleRows, keyRows, certificateRows, authenticationRows, indexRow, lengthRow, pathRows, privateRows, passwordRows, mark, tagOf, kindOf, sortBy, typeOf, classOf}
-use Rattle.layouts.specs.Objects.{has, same, paired, flagged, counts, quiet, listed, path, conditionAs, conditionBody, condition, plainCondition, rule, rules, common, classBody, subclass, privateKey, certificateValue, certificate, password, typeBody, contents, objectBody, object}
+use Rattle.layouts.specs.Objects.{has, same, paired, flagged, counts, quiet, listed, path, identified, conditionAs, conditionBody, condition, plainCondition, rule, rules, common, classBody, subclass, privateKey, certificateValue, certificate, password, typePart, typeBody, contents, objectBody, object}
 use Rattle.elements.specs.Length.{wrap}
 use Rattle.layouts.specs.Render.{gives, Renderer, _next_, either, within, from, plain, rKeep, rAll, rTimes, rRows, rPath, rConditionAs, rConditionOf, rCondition, rRule, rCommon, rClass, rPrivate, rCertificate, rPassword, rType, rContents, rObject}
 use Rattle.layouts.specs.Laws.{Look, look, some, Facts, Ok, refuses, takes, Law, BodyLaw, by-test, and-left, and-right, seqLook, seq, weaken}
@@ -212,7 +212,7 @@ module _ (s : List ℕ) (bytes : (i : ℕ) → getD s i 0 < 256) (small : length
     })
 
     condition-as : (x : Sort) (end at t a e : ℕ) → Found t x → (t ≡ tagOf Always → a ≡ e) → at + 2 ≤ a → a ≤ e → e ≤ end → end ≤ length s → (T (low t) → slice at e s ≡ wrap t (slice a e s)) → Ok s here condLook end at (conditionAs s inner x t at a e)
-    unfolding conditionAs rConditionOf rConditionAs sortBy sealed
+    unfolding identified conditionAs rConditionOf rConditionAs sortBy sealed
     condition-as Always end at t a e (found z) n i j k m w =
         let v : slice a e s ≡ [] = rw (n z) (slice-empty e s) in
         takes (single here condLook (kindOf Always) [] end at e tt tt (omega arith) (omega arith) k (omega arith) (λ rs. rw (rw z at (w (rw z tt)), v) refl))
@@ -298,7 +298,7 @@ module _ (s : List ℕ) (bytes : (i : ℕ) → getD s i 0 < 256) (small : length
   certificate-body at a e h i l = seq (any s bytes value-body) (rest-law s bytes 0x018f [] tt) tt e a i l
 
   type-body : (x : ObjectType) → BodyLaw s (typeBody s x) (rType x) typeLook
-  unfolding typeBody rType
+  unfolding typePart typeBody rType
   type-body PrivateKey = λ at a e h i l. weaken (fullLook (elemLook privateLook)) typeLook tt (closed s bytes (needed s bytes 0x30 private-body tt) e a i l)
   type-body Certificate = λ at a e h i l. weaken (fullLook (elemLook x509Look)) typeLook tt (closed s bytes (needed s bytes 0x30 certificate-body tt) e a i l)
   type-body Password = λ at a e h i l. weaken (fullLook (elemLook passwordLook)) typeLook tt (closed s bytes (needed s bytes 0x30 password-body tt) e a i l)

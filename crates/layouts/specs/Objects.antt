@@ -60,10 +60,14 @@ module _ (s : List ℕ) where
   unfoldable pub path : Body
   path at a e = paired at ((components s pathRows then ended s) e a)
 
+  -- "04 identifier": "Identifiers are 0 to 255 bytes"
+  unfoldable pub identified : Body
+  identified at a e = choose (leb (e - a) 255) (λ _. took (rec (kindOf Identifier) (slice a e s) ∷ []) [] e) (λ _. fails BadSize at)
+
   -- "05 00 always; 04 identifier; A0 not, one inside; A1 and, A2 or, each 2 to 255 inside, 2-byte count; another tag, sealed": those inside it are read by `inner`
   unfoldable pub conditionAs : (ℕ → Reader) → Sort → ℕ → Body
   conditionAs inner Always t at a e = took (rec (kindOf Always) [] ∷ []) [] e
-  conditionAs inner Identifier t at a e = choose (leb (e - a) 255) (λ _. took (rec (kindOf Identifier) (slice a e s) ∷ []) [] e) (λ _. fails BadSize at)
+  conditionAs inner Identifier t at a e = identified at a e
   conditionAs inner Not t at a e = also (rec (kindOf Not) [] ∷ []) [] ((inner 0 then ended s) e a)
   conditionAs inner And t at a e = listed (kindOf And) e (repeat toEnd inner (e - a) 0 e a)
   conditionAs inner Or t at a e = listed (kindOf Or) e (repeat toEnd inner (e - a) 0 e a)
@@ -124,12 +128,16 @@ module _ (s : List ℕ) where
   unfoldable pub password : Body
   password at a e = flagged at ((components s passwordRows then component s 0x30 Optional path then rest s 0x019f (0x30 ∷ keptOut passwordRows)) e a)
 
-  -- "Type is one element. .. All others sealed, 01A0"
+  -- "Private key .. Certificate .. Password .. All others sealed, 01A0"
+  unfoldable pub typePart : ObjectType → Reader
+  typePart PrivateKey = component s 0x30 Required privateKey
+  typePart Certificate = component s 0x30 Required certificate
+  typePart Password = component s 0x30 Required password
+  typePart Sealed = element s (sealed s 0x01a0 [])
+
+  -- "Type is one element."
   unfoldable pub typeBody : ObjectType → Body
-  typeBody PrivateKey = inside (component s 0x30 Required privateKey then ended s)
-  typeBody Certificate = inside (component s 0x30 Required certificate then ended s)
-  typeBody Password = inside (component s 0x30 Required password then ended s)
-  typeBody Sealed = inside (element s (sealed s 0x01a0 []) then ended s)
+  typeBody x = inside (typePart x then ended s)
 
   -- "contents common 30, class 30, subclass A0?, type A1"
   unfoldable pub contents : ℕ → ℕ → Reader

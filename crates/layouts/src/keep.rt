@@ -26,7 +26,15 @@ pub fn ended(s: &[u8], end: usize, at: usize, o: usize) -> Part
 }
 
 // The rest of a sequence: sealed elements, none with a tag that is kept out.
-pub fn rest(s: &[u8], kind: u16, tags: &[u8], end: usize, at: usize, out: &mut [u8], o: usize) -> Part
+pub fn rest(
+    s: &[u8],
+    kind: u16,
+    tags: &[u8],
+    end: usize,
+    at: usize,
+    out: &mut [u8],
+    o: usize,
+) -> Part
     requires { ⌜ InContainer (now s) end at o ⌝ }
     ensures { λ r. ⌜ Did (now (out .entry)) (now (out .exit)) o at end (rest (now (s .entry)) kind (now (tags .entry)) end at) r ⌝ }
 {
@@ -51,9 +59,18 @@ pub fn inner_run(s: &[u8], t: u8, a: usize, e: usize) -> Run
 }
 
 // A sealed element, kept whole.
-pub fn sealed(s: &[u8], kind: u16, t: u8, at: usize, a: usize, e: usize, out: &mut [u8], o: usize) -> Part
+pub fn sealed(
+    s: &[u8],
+    kind: u16,
+    t: u8,
+    at: usize,
+    a: usize,
+    e: usize,
+    out: &mut [u8],
+    o: usize,
+) -> Part
     requires { ⌜ InElement (now s) at a e o ⌝ }
-    ensures { λ r. ⌜ Did (now (out .entry)) (now (out .exit)) o at e (sealed (now (s .entry)) kind [] t at a e) r ⌝ }
+    ensures { λ r. ⌜ Did (now (out .entry)) (now (out .exit)) o a e (sealed (now (s .entry)) kind [] t at a e) r ⌝ }
 {
     match inner_run(s, t, a, e) {
         Run::Refused(f, p) => Part::Fails(f, p),

@@ -1,9 +1,20 @@
 // The layouts of document 01: what a dump means, and its book.
+mod class;
+mod common;
+mod condition;
+mod entry;
+mod fill;
+mod frame;
+mod info;
 mod keep;
+mod kind;
+mod object;
 mod part;
+mod path;
 mod records;
 mod row;
 mod rows;
+mod scan;
 mod table;
 
 pub use table::Class;

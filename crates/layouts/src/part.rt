@@ -12,6 +12,12 @@ pub enum Part {
     Fails(Fault, usize),
 }
 
+// Parts that were counted: the next place in the dump and in the book, and how many; or a refusal and its place.
+pub enum Many {
+    Took(usize, usize, usize),
+    Fails(Fault, usize),
+}
+
 // Whether a component stands where it is due: from where to where its contents are; or a refusal and its place.
 pub enum Due {
     Here(usize, usize),

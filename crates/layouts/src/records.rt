@@ -65,3 +65,13 @@ pub fn put_behind(
     let t = put_byte(out, q, c);
     put_part(out, t, s, a, e)
 }
+
+// A record of fill: its byte and how many.
+pub fn put_fill(out: &mut [u8], o: usize, kind: u16, b: u8, n: u16) -> usize
+    requires { ⌜ o < 2 ^ 61 ⌝ }
+    ensures { λ r. ⌜ (r ≡ o + 7) × Put (now (out .entry)) (now (out .exit)) o r (recordBytes kind (b ∷ le16 n)) ⌝ }
+{
+    let p = put_start(out, o, kind, 3);
+    let q = put_byte(out, p, b);
+    put_le16(out, q, n)
+}

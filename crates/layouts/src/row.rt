@@ -79,7 +79,16 @@ fn boolean_row(r: Row, n: bool, m: u32, at: usize, e: usize, out: &mut [u8], o: 
 }
 
 // The record of bytes whose number is bounded.
-fn bytes_row(s: &[u8], r: Row, n: bool, at: usize, a: usize, e: usize, out: &mut [u8], o: usize) -> Part
+fn bytes_row(
+    s: &[u8],
+    r: Row,
+    n: bool,
+    at: usize,
+    a: usize,
+    e: usize,
+    out: &mut [u8],
+    o: usize,
+) -> Part
     requires { ⌜ InElement (now s) at a e o ⌝ }
     ensures { λ w. ⌜ Did (now (out .entry)) (now (out .exit)) o at e (valued r at e (payload Octets r (slice a e (now (s .entry))) n 0)) w ⌝ }
 {
@@ -90,7 +99,17 @@ fn bytes_row(s: &[u8], r: Row, n: bool, at: usize, a: usize, e: usize, out: &mut
 }
 
 // The record of what contents from a to e say: a number, by sign and magnitude.
-fn judged(s: &[u8], r: Row, n: bool, m: u32, at: usize, a: usize, e: usize, out: &mut [u8], o: usize) -> Part
+fn judged(
+    s: &[u8],
+    r: Row,
+    n: bool,
+    m: u32,
+    at: usize,
+    a: usize,
+    e: usize,
+    out: &mut [u8],
+    o: usize,
+) -> Part
     requires { ⌜ (r .form ≡ Boolean → m < 256) × InElement (now s) at a e o ⌝ }
     ensures { λ w. ⌜ Did (now (out .entry)) (now (out .exit)) o at e (valued r at e (payload (r .form) r (slice a e (now (s .entry))) n m)) w ⌝ }
 {
@@ -132,7 +151,16 @@ fn component(s: &[u8], r: Row, end: usize, at: usize, out: &mut [u8], o: usize) 
 }
 
 // The components of a sequence from the i-th up to the last-th, in their order.
-pub fn components(s: &[u8], q: Sequence, i: usize, last: usize, end: usize, at: usize, out: &mut [u8], o: usize) -> Part
+pub fn components(
+    s: &[u8],
+    q: Sequence,
+    i: usize,
+    last: usize,
+    end: usize,
+    at: usize,
+    out: &mut [u8],
+    o: usize,
+) -> Part
     requires { ⌜ (i ≤ last) × (last ≤ length (rowsOf q)) × InContainer (now s) end at o ⌝ }
     ensures { λ w. ⌜ Did (now (out .entry)) (now (out .exit)) o at end (components (now (s .entry)) (slice i last (rowsOf q)) end at) w ⌝ }
 {
