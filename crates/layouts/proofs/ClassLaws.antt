@@ -1,9 +1,9 @@
 -- A class's sequence with its rest, data containers, and the subclass.
-use Prim.Native.Nat.{ℕ, _+_, _-_, _*_, _≤_}
+use Prim.Native.Nat.{ℕ, zero, suc, _+_, _-_, _*_, _<_, _≤_}
 use mathlib.Core.Path.{_≡_, refl, sym, _∙_}
 use mathlib.Core.List.{List, [], _∷_}
 use native.Mathlib.Omega.{arith}
-use lib.ListN.{length}
+use lib.ListN.{length, getD}
 use lib.Seq.{slice}
 use Rattle.elements.specs.declared.fault.Fault.{Fault}
 use Rattle.elements.specs.declared.answer.Run.{Run}
@@ -18,10 +18,22 @@ use Rattle.layouts.specs.declared.table.Class.{Class}
 use Rattle.layouts.specs.declared.table.Class.the-variants.{Keys, Certificates, Containers, Authentications}
 use Rattle.layouts.specs.Reading.{Res, andThen, _then_}
 use Rattle.layouts.specs.Parts.{components, rest, element, sealed, ended, keptOut}
-use Rattle.layouts.specs.Tables.{keyRows, certificateRows, authenticationRows}
+use Rattle.layouts.specs.Tables.{classes, classOf, keyRows, certificateRows, authenticationRows}
 use Rattle.layouts.specs.Objects.{classBody, subclass}
 use Rattle.layouts.specs.Did.{Did, fell, Stays, Inside}
 use Rattle.layouts.proofs.DidLaws.{did-one, did-as, did-then, did-fails, did-ends}
+
+-- tags that are no entry's
+pub class-below : (entry : ℕ) → entry < 0xa0 → Keys ≡ classOf entry
+class-below entry h = let z : entry - 0xa0 ≡ 0 = omega arith in rw z refl
+
+pub class-above : (entry : ℕ) → 0xa8 < entry → Keys ≡ classOf entry
+class-above entry h = sym (getD-past classes (entry - 0xa0) (omega arith))
+  where
+    getD-past : (l : List Class) (i : ℕ) → length l ≤ i → getD l i Keys ≡ Keys
+    getD-past [] i h = refl
+    getD-past (x ∷ l) zero h = absurd (omega arith)
+    getD-past (x ∷ l) (suc i) h = getD-past l i (omega arith)
 
 -- all rows of a table
 pub whole-rows : {a b : List ℕ} {o at end c : ℕ} {r : Part} (s : List ℕ) (rs : List Row) → c ≡ length rs → Did a b o at end (components s (slice 0 c rs) end at) r → Did a b o at end (components s rs end at) r
@@ -44,16 +56,16 @@ as-class : {a b : List ℕ} {o x e : ℕ} {r : Part} (s : List ℕ) (at : ℕ) {
 as-class s at d z g = rw z g
 
 module _ {a b : List ℕ} {o x e : ℕ} {r : Part} (s : List ℕ) (at : ℕ) {c : Class} where
-  pub class-keys : c ≡ Keys → Did a b o x e ((components s keyRows then rest s 0x013f (0x01 ∷ 0x03 ∷ 0x02 ∷ 0x18 ∷ 0x80 ∷ [])) e x) r → Did a b o x e (classBody s c at x e) r
-  unfolding classBody keptOut
+  pub class-keys : c ≡ Keys → Did a b o x e ((components s keyRows then rest s 0x013f (keptOut keyRows)) e x) r → Did a b o x e (classBody s c at x e) r
+  unfolding classBody
   class-keys z d = as-class s at Keys z d
 
-  pub class-certificates : c ≡ Certificates → Did a b o x e ((components s certificateRows then rest s 0x014f (0x01 ∷ [])) e x) r → Did a b o x e (classBody s c at x e) r
-  unfolding classBody keptOut
+  pub class-certificates : c ≡ Certificates → Did a b o x e ((components s certificateRows then rest s 0x014f (keptOut certificateRows)) e x) r → Did a b o x e (classBody s c at x e) r
+  unfolding classBody
   class-certificates z d = as-class s at Certificates z d
 
-  pub class-authentications : c ≡ Authentications → Did a b o x e ((components s authenticationRows then rest s 0x015f (0x04 ∷ 0x02 ∷ 0x80 ∷ [])) e x) r → Did a b o x e (classBody s c at x e) r
-  unfolding classBody keptOut
+  pub class-authentications : c ≡ Authentications → Did a b o x e ((components s authenticationRows then rest s 0x015f (keptOut authenticationRows)) e x) r → Did a b o x e (classBody s c at x e) r
+  unfolding classBody
   class-authentications z d = as-class s at Authentications z d
 
   pub class-containers : c ≡ Containers → Did a b o x e (classBody s Containers at x e) r → Did a b o x e (classBody s c at x e) r

@@ -123,6 +123,6 @@ module _ (s : List ℕ) {a b : List ℕ} {o x e : ℕ} {r : Part} (d : Did a b o
     unfolding common
     common-second z1 = record { is = λ at. did-fails common-two (λ n. rest s 0x012f (0x30 ∷ keptOut commonRows) e n) z1 }
 
-    pub common-third : {g : List ℕ} {m t : ℕ} → r1 ≡ Took m t → {r2 : Part} → Did c g t m e (rest s 0x012f (0x30 ∷ 0x0c ∷ 0x03 ∷ 0x04 ∷ 0x02 ∷ []) e m) r2 → Inside a g o x e (common s) r2
-    unfolding common keptOut
+    pub common-third : {g : List ℕ} {m t : ℕ} → r1 ≡ Took m t → {r2 : Part} → Did c g t m e (rest s 0x012f (0x30 ∷ keptOut commonRows) e m) r2 → Inside a g o x e (common s) r2
+    unfolding common
     common-third z1 d2 = record { is = λ at. did-then common-two z1 (λ n. rest s 0x012f (0x30 ∷ keptOut commonRows) e n) d2 }

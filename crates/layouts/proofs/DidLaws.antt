@@ -33,10 +33,6 @@ pub encode-one : (k : ℕ) (p : List ℕ) → encode (rec k p ∷ []) ≡ record
 unfolding encode
 encode-one k p = append-nil (recordBytes k p)
 
--- a refusal
-pub did-fell : (a : List ℕ) (o at end : ℕ) (f : Fault) (p : ℕ) → Did a a o at end (fails f p) (Fails f p)
-did-fell a o at end f p = fell refl
-
 -- nothing is there
 pub did-none : (a : List ℕ) (o at end : ℕ) → at ≤ end → o ≤ 8 * at → Did a a o at end (took [] [] at) (Took at o)
 unfolding encode
@@ -45,11 +41,6 @@ did-none a o at end h l = did {n = at} (put-none a o) (omega arith) h l
 -- one record
 pub did-one : {a b : List ℕ} {o q : ℕ} (k : ℕ) (p : List ℕ) (at e : ℕ) → Put a b o q (recordBytes k p) → at ≤ e → q ≤ 8 * e → Did a b o at e (took (rec k p ∷ []) [] e) (Took e q)
 did-one k p at e f h l = did {n = e} (put-as f (sym (encode-one k p))) h (omega arith) l
-
--- a record in front of what is inside an element
-pub did-front : {a b c : List ℕ} {o q x e : ℕ} {w : Res} {r : Part} (k : ℕ) (p : List ℕ) (at : ℕ) → Put a b o q (recordBytes k p) → at + 2 ≤ x → Did b c q x e w r → Did a c o at e (also (rec k p ∷ []) [] w) r
-did-front k p at f h (did {bs = bs} {n = n} g i j l) = did {n = n} (put-then f g (sym (encode-append (rec k p ∷ []) bs ∙ rw (encode-one k p) refl))) (omega arith) j l
-did-front k p at f h (fell e) = fell (e ∙ put-length f)
 
 module _ {a b : List ℕ} {o at end : ℕ} {w : Res} {r : Part} (d : Did a b o at end w r) where
   pub did-same : length b ≡ length a

@@ -406,7 +406,7 @@ entries-start s a u end at o i l = record {
   kept = refl;
 }
 
-objects-open : {a b u v : List ℕ} {o at end k n q j : ℕ} {w : Res} → DidObjects a b u v o at end k w (many.Took n q j) → (bs : List Rec) × (ms : List ℕ) × (w ≡ took bs ms n) × Put a b o q (encode bs) × Put u v k j ms
+pub objects-open : {a b u v : List ℕ} {o at end k n q j : ℕ} {w : Res} → DidObjects a b u v o at end k w (many.Took n q j) → (bs : List Rec) × (ms : List ℕ) × (w ≡ took bs ms n) × Put a b o q (encode bs) × Put u v k j ms
 objects-open (didObjects {bs = bs} {ms = ms} f g _ _ _ _) = (bs, ms, refl, f, g)
 
 module _ {s a b u v : List ℕ} {end at o k n p : ℕ} (h : Entries s a b u v end at o k n p) {t : Bool} (m : t ≡ toFill s end n) where

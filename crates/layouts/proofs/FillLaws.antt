@@ -85,8 +85,8 @@ module _ (s : List ℕ) (kind end at : ℕ) where
     fill-put l m n f = rw (lt-ltb at end h, w .all l) (did-one kind (getD s at 0 ∷ le16 (end - at)) at end f (omega arith) (omega arith))
 
 -- CIAInfo's file
-pub info-inside : {a b : List ℕ} {o x e : ℕ} {r : Part} (s : List ℕ) → Did a b o x e ((components s ciaRows then rest s 0x0106 (0x04 ∷ 0x0c ∷ 0x80 ∷ [])) e x) r → Inside a b o x e (ciaBody s) r
-unfolding ciaBody keptOut
+pub info-inside : {a b : List ℕ} {o x e : ℕ} {r : Part} (s : List ℕ) → Did a b o x e ((components s ciaRows then rest s 0x0106 (keptOut ciaRows)) e x) r → Inside a b o x e (ciaBody s) r
+unfolding ciaBody
 info-inside s d = record { is = λ at. d }
 
 module _ (s : List ℕ) (end at : ℕ) {t : Bool} (k : t ≡ toFill s end at) where

@@ -95,7 +95,7 @@ module _ (at : ℕ) (r : Framed) where
       let y : _≡_ {A = ℕ} 0 1 = cc in
       omega arith
 
-  is-framed : (f : File) {n a e : ℕ} → framed f ≡ framedAs at r → r ≡ file.File n a e → (f .named ≡ n) × (f .start ≡ a) × (f .stop ≡ e)
+  pub is-framed : (f : File) {n a e : ℕ} → framed f ≡ framedAs at r → r ≡ file.File n a e → (f .named ≡ n) × (f .start ≡ a) × (f .stop ≡ e)
   is-framed f {n} {a} {e} q z =
       let w : framed f ≡ framed (record { place = at; named = n; start = a; stop = e }) = rw z at q in
       let y : f ≡ record { place = at; named = n; start = a; stop = e } = cc in

@@ -82,7 +82,7 @@ module _ (s : List ℕ) {a b : List ℕ} {o x e : ℕ} {r : Part} (d : Did a b o
     private-second z1 = record { is = λ at. did-fails private-two (λ n. rest s 0x018f (keptOut privateRows) e n) z1 }
 
     pub private-third : {g : List ℕ} {m t : ℕ} → r1 ≡ Took m t → {r2 : Part} → Did c g t m e (rest s 0x018f [] e m) r2 → Inside a g o x e (privateKey s) r2
-    unfolding privateKey keptOut
+    unfolding privateKey
     private-third z1 d2 = record { is = λ at. did-then private-two z1 (λ n. rest s 0x018f (keptOut privateRows) e n) d2 }
 
 -- a certificate
@@ -119,8 +119,7 @@ module _ (s : List ℕ) {a b : List ℕ} {o x e : ℕ} {r : Part} (d : Did a b o
     pub parts-second : {f : Fault} {p : ℕ} → r1 ≡ Fails f p → Did a c o x e (parts s e x) (Fails f p)
     parts-second z1 = did-fails parts-two (λ n. rest s 0x019f (0x30 ∷ keptOut passwordRows) e n) z1
 
-    pub parts-third : {g : List ℕ} {m t : ℕ} → r1 ≡ Took m t → {r2 : Part} → Did c g t m e (rest s 0x019f (0x30 ∷ 0x02 ∷ 0x80 ∷ 0x04 ∷ 0x18 ∷ []) e m) r2 → Did a g o x e (parts s e x) r2
-    unfolding keptOut
+    pub parts-third : {g : List ℕ} {m t : ℕ} → r1 ≡ Took m t → {r2 : Part} → Did c g t m e (rest s 0x019f (0x30 ∷ keptOut passwordRows) e m) r2 → Did a g o x e (parts s e x) r2
     parts-third z1 d2 = did-then parts-two z1 (λ n. rest s 0x019f (0x30 ∷ keptOut passwordRows) e n) d2
 
 -- the one element that a type is

@@ -14,5 +14,8 @@ pub mod EntryLaws
 pub mod LiesLaws
 pub mod ScanLaws
 pub mod FrameLaws
+pub mod TwelveLaws
+pub mod DirectoriesLaws
+pub mod PlaceLaws
 pub mod PathLaws
 pub mod KindLaws

@@ -18,7 +18,7 @@ use Rattle.elements.specs.Length.{shortest, wrap}
 use Rattle.elements.specs.Record.{recordBytes}
 use Rattle.layouts.specs.declared.table.Row.{Row}
 use Rattle.layouts.specs.Reading.{count, number, Res, took, fails, _then_}
-use Rattle.layouts.specs.Parts.{payload, component, rowBody, components, ended, element, repeat, rest, sealed, keptOut}
+use Rattle.layouts.specs.Parts.{payload, component, rowBody, components, ended, element, repeat, rest, sealed}
 use Rattle.layouts.specs.Tables.{sortBy, typeOf}
 use Rattle.layouts.specs.Objects.{path, identified, conditionAs, conditionBody, condition, plainCondition, rule, rules, common, classBody, subclass, privateKey, certificateValue, certificate, password, typePart, typeBody, contents, objectBody, object}
 use Rattle.layouts.specs.Files.{namesOf, filled, fill, ciaBody, ciaElement, ciaFill, cia, objects, namedPath, entryInside, entryBody, od, directory, frameOf, fileIn, frame, namedFile, namedFrame, frames, firstAgain, entryPlace, follow, directories, repeated, readFiles, readParts, readDump, Answer, accepted, refused}
@@ -47,7 +47,7 @@ seenRes (took bs ms n) = book (encode bs)
 seenRes (fails f p) = refusal (numberOf f) p
 
 unfoldable pub answered : Asked → Seen
-unfolding leadingZeros header highTag further lengthAt long1 long2 long2Of fitted loop sealedRun boolean booleanBytes integer whole padded magnitude bare big spreadBy spread integerBytes told bits bitsOf weigh reversed width flagRun flagBytes text textFrom stepOf starts leadOf find time stated digits two dated clocked daysOf leap value null shortest wrap recordBytes count number payload component rowBody components ended element repeat rest sealed keptOut sortBy typeOf path identified conditionAs conditionBody condition plainCondition rule rules common classBody subclass privateKey certificateValue certificate password typePart typeBody contents objectBody object namesOf filled fill ciaBody ciaElement ciaFill cia objects namedPath entryInside entryBody od directory frameOf fileIn frame namedFile namedFrame frames firstAgain entryPlace follow directories repeated readFiles readParts readDump encode recordsOf records unvalue rRow rRows rKeep rMany rAll rTimes rPath rConditionAs rConditionOf rCondition rRule rCommon rClass rPrivate rCertificate rPassword rType rContents rObject rObjects rInside rEntryOf rEntry rFill rCia rOd rDirectory framing rDirectories render
+unfolding leadingZeros header highTag further lengthAt long1 long2 long2Of fitted loop sealedRun boolean booleanBytes integer whole padded magnitude bare big spreadBy spread integerBytes told bits bitsOf weigh reversed width flagRun flagBytes text textFrom stepOf starts leadOf find time stated digits two dated clocked daysOf leap value null shortest wrap recordBytes count number payload component rowBody components ended element repeat rest sealed sortBy typeOf path identified conditionAs conditionBody condition plainCondition rule rules common classBody subclass privateKey certificateValue certificate password typePart typeBody contents objectBody object namesOf filled fill ciaBody ciaElement ciaFill cia objects namedPath entryInside entryBody od directory frameOf fileIn frame namedFile namedFrame frames firstAgain entryPlace follow directories repeated readFiles readParts readDump encode recordsOf records unvalue rRow rRows rKeep rMany rAll rTimes rPath rConditionAs rConditionOf rCondition rRule rCommon rClass rPrivate rCertificate rPassword rType rContents rObject rObjects rInside rEntryOf rEntry rFill rCia rOd rDirectory framing rDirectories render
 answered (reads d) = seen (readDump d)
 answered (renders b) = dump (render (records b))
 answered (readsCondition d) = seenRes (condition d 8 0 (length d) 0)

@@ -10,6 +10,8 @@ pub mod Meaning
 pub mod Did
 pub mod Scan
 pub mod Frame
+pub mod Twelve
+pub mod Directories
 pub mod Demand2
 pub mod Computing
 pub mod Examples

@@ -139,6 +139,11 @@ module _ (s : List ℕ) where
   sealed kind front t at a e = keep (rec kind (front ++ slice at e s) ∷ []) e (innerRun t a e)
 
 -- the tags that a rest does not have
-unfoldable pub keptOut : List Row → List ℕ
+abbrev pub unlessRequired : Need → ℕ → List ℕ → List ℕ
+unlessRequired Required t ts = ts
+unlessRequired Optional t ts = t ∷ ts
+unlessRequired (Default d) t ts = t ∷ ts
+
+abbrev pub keptOut : List Row → List ℕ
 keptOut [] = []
-keptOut (r ∷ rs) = elim (r .need) [ Required ↦ keptOut rs | Optional ↦ r .tag ∷ keptOut rs | Default d ↦ r .tag ∷ keptOut rs ]
+keptOut (r ∷ rs) = unlessRequired (r .need) (r .tag) (keptOut rs)

@@ -14,7 +14,6 @@ use elements::header;
 use elements::put_record;
 ghost use mathlib.Core.Path.{_≡_};
 ghost use mathlib.Core.List.{[]};
-ghost use Prim.Native.Nat.{_≤_};
 ghost use lib.ListN.{length};
 ghost use Rattle.layouts.specs.declared.table.Need.the-variants.{Required, Optional};
 ghost use Rattle.layouts.specs.declared.table.Class.the-variants.{Containers};
@@ -37,11 +36,16 @@ const CLASSES: [Class; 9] = [
     Class::Authentications,
 ];
 
-// The class of an entry's objects.
+// The class of an entry's objects; of a tag that is no entry's, keys.
 pub fn class_of(entry: u8) -> Class
-    requires { ⌜ (0xa0 ≤ entry) × (entry ≤ 0xa8) ⌝ }
     ensures { λ r. ⌜ r ≡ classOf entry ⌝ }
 {
+    if entry < 0xa0 {
+        return Class::Keys;
+    }
+    if 0xa8 < entry {
+        return Class::Keys;
+    }
     CLASSES[(entry - 0xa0) as usize]
 }
 

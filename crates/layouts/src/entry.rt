@@ -63,7 +63,7 @@ fn objects(
     o: usize,
     marks: &mut [u32],
 ) -> Many
-    requires { ⌜ (k ≤ 128) × (0xa0 ≤ entry) × (entry ≤ 0xa8) × InContainer (now s) end at o ⌝ }
+    requires { ⌜ (k ≤ 128) × InContainer (now s) end at o ⌝ }
     ensures { λ r. ⌜ DidObjects (now (out .entry)) (now (out .exit)) (now (marks .entry)) (now (marks .exit)) o at end k (objects (now (s .entry)) (moreOf (now (s .entry)) file) entry k end at) r ⌝ }
 {
     let mut j = k;
@@ -132,7 +132,7 @@ fn inline(
     o: usize,
     marks: &mut [u32],
 ) -> Many
-    requires { ⌜ (k ≤ 128) × (0xa0 ≤ entry) × (entry ≤ 0xa8) × InElement (now s) at a e o ⌝ }
+    requires { ⌜ (k ≤ 128) × InElement (now s) at a e o ⌝ }
     ensures { λ r. ⌜ DidObjects (now (out .entry)) (now (out .exit)) (now (marks .entry)) (now (marks .exit)) o a e k (also (rec 0x0110 (entry ∷ 1 ∷ []) ∷ []) [] (objects (now (s .entry)) toEnd entry k e a)) r ⌝ }
 {
     let q = put_two(out, o, 0x0110, entry, 1);
@@ -150,7 +150,7 @@ fn entry_inside(
     o: usize,
     marks: &mut [u32],
 ) -> Many
-    requires { ⌜ (k ≤ 128) × (0xa0 ≤ entry) × (entry ≤ 0xa8) × InContainer (now s) end at o ⌝ }
+    requires { ⌜ (k ≤ 128) × InContainer (now s) end at o ⌝ }
     ensures { λ r. ⌜ DidObjects (now (out .entry)) (now (out .exit)) (now (marks .entry)) (now (marks .exit)) o at end k (element (now (s .entry)) (entryInside (now (s .entry)) entry k) end at) r ⌝ }
 {
     match header(s, at, end) {
@@ -185,7 +185,7 @@ fn known_entry(
     o: usize,
     marks: &mut [u32],
 ) -> Many
-    requires { ⌜ (k ≤ 128) × (0xa0 ≤ entry) × (entry ≤ 0xa8) × InContainer (now s) e a o ⌝ }
+    requires { ⌜ (k ≤ 128) × InContainer (now s) e a o ⌝ }
     ensures { λ r. ⌜ DidObjects (now (out .entry)) (now (out .exit)) (now (marks .entry)) (now (marks .exit)) o a e k ((element (now (s .entry)) (entryInside (now (s .entry)) entry k) then ended (now (s .entry))) e a) r ⌝ }
 {
     match entry_inside(s, entry, k, e, a, out, o, marks) {
@@ -333,7 +333,7 @@ fn file_objects(
     o: usize,
     marks: &mut [u32],
 ) -> Many
-    requires { ⌜ (k ≤ 128) × (0xa0 ≤ entry) × (entry ≤ 0xa8) × (o + 4 ≤ 8 * at) × InContainer (now s) end at o ⌝ }
+    requires { ⌜ (k ≤ 128) × (o + 4 ≤ 8 * at) × InContainer (now s) end at o ⌝ }
     ensures { λ r. ⌜ DidObjects (now (out .entry)) (now (out .exit)) (now (marks .entry)) (now (marks .exit)) o at end k (also (rec 0x0118 [] ∷ []) [] (objects (now (s .entry)) (toFill (now (s .entry))) entry k end at)) r ⌝ }
 {
     let q = put_bare(out, o, 0x0118);
@@ -351,7 +351,7 @@ pub fn directory(
     o: usize,
     marks: &mut [u32],
 ) -> Many
-    requires { ⌜ (k ≤ 128) × (0xa0 ≤ entry) × (entry ≤ 0xa8) × (o + 4 ≤ 8 * at) × InContainer (now s) end at o ⌝ }
+    requires { ⌜ (k ≤ 128) × (o + 4 ≤ 8 * at) × InContainer (now s) end at o ⌝ }
     ensures { λ r. ⌜ DidObjects (now (out .entry)) (now (out .exit)) (now (marks .entry)) (now (marks .exit)) o at end k (directory (now (s .entry)) entry k end at) r ⌝ }
 {
     match file_objects(s, entry, k, end, at, out, o, marks) {

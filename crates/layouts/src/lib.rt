@@ -2,6 +2,7 @@
 mod class;
 mod common;
 mod condition;
+mod directories;
 mod entry;
 mod fill;
 mod frame;
@@ -11,11 +12,13 @@ mod kind;
 mod object;
 mod part;
 mod path;
+mod place;
 mod records;
 mod row;
 mod rows;
 mod scan;
 mod table;
+mod twelve;
 
 pub use table::Class;
 pub use table::Need;

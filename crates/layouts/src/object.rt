@@ -12,7 +12,6 @@ use elements::Head;
 use elements::header;
 ghost use mathlib.Core.Path.{_≡_};
 ghost use mathlib.Core.Bool.{_||_, _&&_};
-ghost use Prim.Native.Nat.{_≤_};
 ghost use lib.Dec.{eqb, leb};
 ghost use Rattle.layouts.specs.declared.table.Need.the-variants.{Required, Optional};
 ghost use Rattle.layouts.specs.Reading.{_then_};
@@ -34,7 +33,7 @@ fn is_object(t: u8) -> bool
 
 // Common, class and subclass.
 fn attributes(s: &[u8], entry: u8, end: usize, at: usize, out: &mut [u8], o: usize) -> Part
-    requires { ⌜ (0xa0 ≤ entry) × (entry ≤ 0xa8) × InContainer (now s) end at o ⌝ }
+    requires { ⌜ InContainer (now s) end at o ⌝ }
     ensures { λ r. ⌜ Did (now (out .entry)) (now (out .exit)) o at end ((component (now (s .entry)) 0x30 Required (common (now (s .entry))) then component (now (s .entry)) 0x30 Required (classBody (now (s .entry)) (classOf entry)) then component (now (s .entry)) 0xa0 Optional (subclass (now (s .entry)))) end at) r ⌝ }
 {
     match due_common(s, end, at, out, o) {
@@ -48,7 +47,7 @@ fn attributes(s: &[u8], entry: u8, end: usize, at: usize, out: &mut [u8], o: usi
 
 // "contents common 30, class 30, subclass A0?, type A1".
 fn contents(s: &[u8], entry: u8, tag: u8, end: usize, at: usize, out: &mut [u8], o: usize) -> Part
-    requires { ⌜ (0xa0 ≤ entry) × (entry ≤ 0xa8) × InContainer (now s) end at o ⌝ }
+    requires { ⌜ InContainer (now s) end at o ⌝ }
     ensures { λ r. ⌜ Did (now (out .entry)) (now (out .exit)) o at end (contents (now (s .entry)) entry tag end at) r ⌝ }
 {
     match attributes(s, entry, end, at, out, o) {
@@ -71,7 +70,7 @@ fn object_body(
     out: &mut [u8],
     o: usize,
 ) -> Part
-    requires { ⌜ (0xa0 ≤ entry) × (entry ≤ 0xa8) × InElement (now s) at a e o ⌝ }
+    requires { ⌜ InElement (now s) at a e o ⌝ }
     ensures { λ r. ⌜ Did (now (out .entry)) (now (out .exit)) o a e (objectBody (now (s .entry)) entry t at a e) r ⌝ }
 {
     if is_object(t) {
@@ -91,7 +90,7 @@ pub fn object(
     out: &mut [u8],
     o: usize,
 ) -> Part
-    requires { ⌜ (0xa0 ≤ entry) × (entry ≤ 0xa8) × InContainer (now s) end at o ⌝ }
+    requires { ⌜ InContainer (now s) end at o ⌝ }
     ensures { λ r. ⌜ Did (now (out .entry)) (now (out .exit)) o at end (object (now (s .entry)) entry k end at) r × Forward at r ⌝ }
 {
     if 128 <= k {

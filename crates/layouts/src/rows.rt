@@ -349,23 +349,6 @@ const PATH: [Row; 3] = [
     },
 ];
 
-// How many components a sequence has.
-pub fn count_of(q: Sequence) -> usize
-    ensures { λ r. ⌜ r ≡ length (rowsOf q) ⌝ }
-{
-    match q {
-        Sequence::Info => 5,
-        Sequence::Common => 4,
-        Sequence::Rule => 1,
-        Sequence::Key => 7,
-        Sequence::Certificate => 2,
-        Sequence::Authentication => 3,
-        Sequence::PrivateKey => 1,
-        Sequence::Password => 8,
-        Sequence::Path => 3,
-    }
-}
-
 // A component of a sequence.
 pub fn row_of(q: Sequence, i: usize) -> Row
     requires { ⌜ i < length (rowsOf q) ⌝ }

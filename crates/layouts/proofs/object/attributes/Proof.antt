@@ -14,7 +14,7 @@ attributes-spec =
     (λ c κs. search (did-high, did-small, needs))  -- due-class-requires
     (λ c. search needs)  -- enum-known-f-2
     (λ c. search needs)  -- enum-known-m
-    (λ c κs. (did-high (c .before .before .before .before .before .before .due-class .ensures) (c .before .before .m .given .1), c .before .before .before .before .before .before .before .before .before .before .before .before .before .before .before .before .before .before .pre .2 .1, c .before .before .before .before .before .before .before .before .before .before .before .before .before .before .before .before .before .before .pre .2 .2, did-small (c .before .before .before .before .before .before .due-class .ensures) (c .before .before .m .given .1)))  -- due-subclass-requires
+    (λ c κs. (did-high (c .before .before .before .before .before .before .due-class .ensures) (c .before .before .m .given .1), c .before .before .before .before .before .before .before .before .before .before .before .before .before .before .before .before .before .before .pre .1, c .before .before .before .before .before .before .before .before .before .before .before .before .before .before .before .before .before .before .pre .2, did-small (c .before .before .before .before .before .before .due-class .ensures) (c .before .before .m .given .1)))  -- due-subclass-requires
     (λ c. search needs)  -- same-length
     (λ c. attributes-first _ (c .before .before .before .before .before .before .before .before .before .args .entry) (c .before .before .before .before .before .due-common .ensures) (c .before .f .given .1))  -- returns
     (λ c. search needs)  -- same-length-2

@@ -14,7 +14,7 @@ contents-spec =
     (λ c κs. search (did-high, did-small, needs))  -- due-type-requires
     (λ c. search needs)  -- enum-known-f-2
     (λ c. search needs)  -- enum-known-m
-    (λ c κs. (did-high (c .before .before .before .before .before .due-type .ensures) (c .before .m .given .1), c .before .before .before .before .before .before .before .before .before .before .before .before .before .before .before .before .before .pre .2 .1, c .before .before .before .before .before .before .before .before .before .before .before .before .before .before .before .before .before .pre .2 .2, did-small (c .before .before .before .before .before .due-type .ensures) (c .before .m .given .1)))  -- ended-requires
+    (λ c κs. (did-high (c .before .before .before .before .before .due-type .ensures) (c .before .m .given .1), c .before .before .before .before .before .before .before .before .before .before .before .before .before .before .before .before .before .pre .1, c .before .before .before .before .before .before .before .before .before .before .before .before .before .before .before .before .before .pre .2, did-small (c .before .before .before .before .before .due-type .ensures) (c .before .m .given .1)))  -- ended-requires
     (λ c. search needs)  -- same-length
     (λ c. contents-first _ (c .before .before .before .before .before .before .before .before .before .args .entry) (c .before .before .before .before .before .before .before .before .before .args .tag) (c .before .before .before .before .before .attributes .ensures) (c .before .f .given .1))  -- returns
     (λ c. search needs)  -- same-length-2
