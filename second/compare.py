@@ -156,7 +156,7 @@ def listed(b):
 
 def state_dumps(count):
     random.seed(count)
-    print('use mathlib.Core.Path.{_≡_, refl}\nuse mathlib.Core.List.{List, [], _∷_}\nuse Rattle.layouts.specs.Computing.{book, refusal, reading, rendering}')
+    print('use mathlib.Core.Path.{_≡_, refl}\nuse mathlib.Core.List.{List, [], _∷_}\nuse Rattle.layouts.specs.Computing.{book, dump, refusal, answered, reading, rendering}')
     made = 0
     while made < count:
         d = whole()
@@ -167,9 +167,9 @@ def state_dumps(count):
         made += 1
         answer = read(d)
         says = 'book ' + listed(answer[1]) if answer[0] == 'book' else 'refusal %d %d' % answer[1:]
-        print('\nread%d : reading %s ≡ %s\nunfolding reading\nread%d = refl' % (made, listed(d), says, made))
+        print('\nread%d : reading %s ≡ %s\nunfolding answered\nread%d = refl' % (made, listed(d), says, made))
         if answer[0] == 'book':
-            print('\nback%d : rendering %s ≡ %s\nunfolding rendering\nback%d = refl' % (made, listed(answer[1]), listed(d), made))
+            print('\nback%d : rendering %s ≡ dump %s\nunfolding answered\nback%d = refl' % (made, listed(answer[1]), listed(d), made))
 
 
 if __name__ == '__main__':

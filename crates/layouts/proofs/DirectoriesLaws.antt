@@ -4,7 +4,7 @@ use mathlib.Core.Path.{_≡_, refl, sym, ap, _∙_}
 use mathlib.Core.List.{List, [], _∷_, _++_, append-nil}
 use native.Mathlib.Omega.{arith}
 use lib.ListN.{length, getD, drop, take, set, length-append}
-use lib.Seq.{slice, sets}
+use lib.Seq.{slice, sets, take-set-le}
 use Rattle.elements.specs.declared.fault.Fault.{Fault}
 use Rattle.elements.specs.Put.{Put}
 use Rattle.elements.specs.PutLaws.{put-none, put-put, put-then, put-length}
@@ -29,15 +29,9 @@ use Rattle.layouts.proofs.FrameLaws.{chain-more, chain-end, is-framed}
 use Rattle.layouts.proofs.TwelveLaws.{chain-same}
 
 -- what is put behind a place leaves what lies before it
-set-behind : (l : List ℕ) (e o x : ℕ) → e ≤ o → take e (set l o x) ≡ take e l
-set-behind [] e o x h = refl
-set-behind (y ∷ l) zero o x h = refl
-set-behind (y ∷ l) (suc e) zero x h = absurd (omega arith)
-set-behind (y ∷ l) (suc e) (suc o) x h = ap (λ (m : List ℕ). y ∷ m) (set-behind l e o x (omega arith))
-
 sets-behind : (xs l : List ℕ) (e o : ℕ) → e ≤ o → take e (sets l o xs) ≡ take e l
 sets-behind [] l e o h = refl
-sets-behind (x ∷ xs) l e o h = sets-behind xs (set l o x) e (suc o) (omega arith) ∙ set-behind l e o x h
+sets-behind (x ∷ xs) l e o h = sets-behind xs (set l o x) e (suc o) (omega arith) ∙ take-set-le e l o x h
 
 pub put-lies : {a b : List ℕ} {o q i end : ℕ} {xs : List ℕ} {rs : List Rec} → Put a b o q xs → end ≤ o → Lies a i end rs → Lies b i end rs
 put-lies {a} {b} {o} {q} {i} {end} {xs} f h l = record {

@@ -92,6 +92,8 @@ table =
     has keyRows (part 0x04 [] ∷ part 0x03 (0x00 ∷ []) ∷ part 0x03 (0x00 ∷ []) ∷ part 0x02 (0x00 ∷ []) ∷ []) (rec 0x0130 [] ∷ rec 0x0131 (le32 0) ∷ rec 0x0133 (le32 0) ∷ rec 0x0134 (le32 0) ∷ []) ∷
     -- CommonKeyAttributes: what is required
     has keyRows (part 0x04 [] ∷ part 0x03 (0x00 ∷ []) ∷ []) (rec 0x0130 [] ∷ rec 0x0131 (le32 0) ∷ []) ∷
+    -- CommonKeyAttributes: a number in between
+    has keyRows (part 0x04 [] ∷ part 0x03 (0x00 ∷ []) ∷ part 0x02 (0x01 ∷ []) ∷ []) (rec 0x0130 [] ∷ rec 0x0131 (le32 0) ∷ rec 0x0134 (le32 1) ∷ []) ∷
     -- an iD of 256 bytes
     lacks keyRows 7 0 (part 0x04 (replicate 256 0xff) ∷ []) ∷
     -- no iD
@@ -122,6 +124,8 @@ table =
     has authenticationRows (part 0x04 [] ∷ part 0x02 (0x00 ∷ []) ∷ part 0x80 (0x00 ∷ []) ∷ []) (rec 0x0150 [] ∷ rec 0x0151 (le32 0) ∷ rec 0x0152 (le32 0) ∷ []) ∷
     -- CommonAuthenticationObjectAttributes: nothing is required
     has authenticationRows [] [] ∷
+    -- CommonAuthenticationObjectAttributes: numbers in between
+    has authenticationRows (part 0x02 (0x01 ∷ []) ∷ part 0x80 (0x01 ∷ []) ∷ []) (rec 0x0151 (le32 1) ∷ rec 0x0152 (le32 1) ∷ []) ∷
     -- an authId of 256 bytes
     lacks authenticationRows 7 0 (part 0x04 (replicate 256 0xff) ∷ []) ∷
     -- authReference 256
@@ -142,6 +146,8 @@ table =
     has passwordRows (part 0x03 (0x00 ∷ []) ∷ part 0x0a (0x00 ∷ []) ∷ part 0x02 (0x04 ∷ []) ∷ part 0x02 (0x00 ∷ []) ∷ part 0x02 (0x00 ∷ []) ∷ part 0x80 (0x01 ∷ []) ∷ []) (rec 0x0190 (le32 0) ∷ rec 0x0191 (le32 0) ∷ rec 0x0192 (le32 4) ∷ rec 0x0193 (le32 0) ∷ rec 0x0194 (le32 0) ∷ rec 0x0195 (le32 1) ∷ []) ∷
     -- PasswordAttributes: what is required
     has passwordRows (part 0x03 (0x00 ∷ []) ∷ part 0x0a (0x00 ∷ []) ∷ part 0x02 (0x04 ∷ []) ∷ part 0x02 (0x00 ∷ []) ∷ []) (rec 0x0190 (le32 0) ∷ rec 0x0191 (le32 0) ∷ rec 0x0192 (le32 4) ∷ rec 0x0193 (le32 0) ∷ []) ∷
+    -- PasswordAttributes: numbers in between
+    has passwordRows (part 0x03 (0x00 ∷ []) ∷ part 0x0a (0x01 ∷ []) ∷ part 0x02 (0x05 ∷ []) ∷ part 0x02 (0x01 ∷ []) ∷ part 0x02 (0x01 ∷ []) ∷ []) (rec 0x0190 (le32 0) ∷ rec 0x0191 (le32 1) ∷ rec 0x0192 (le32 5) ∷ rec 0x0193 (le32 1) ∷ rec 0x0194 (le32 1) ∷ []) ∷
     -- no pwdFlags
     lacks passwordRows 3 0 (part 0x0a (0x00 ∷ []) ∷ []) ∷
     -- no pwdType
@@ -150,6 +156,10 @@ table =
     lacks passwordRows 7 3 (part 0x03 (0x00 ∷ []) ∷ part 0x0a (0x05 ∷ []) ∷ []) ∷
     -- no minLength
     lacks passwordRows 5 6 (part 0x03 (0x00 ∷ []) ∷ part 0x0a (0x00 ∷ []) ∷ []) ∷
+    -- minLength 0
+    lacks passwordRows 7 6 (part 0x03 (0x00 ∷ []) ∷ part 0x0a (0x00 ∷ []) ∷ part 0x02 (0x00 ∷ []) ∷ []) ∷
+    -- minLength 1
+    lacks passwordRows 7 6 (part 0x03 (0x00 ∷ []) ∷ part 0x0a (0x00 ∷ []) ∷ part 0x02 (0x01 ∷ []) ∷ []) ∷
     -- minLength 3
     lacks passwordRows 7 6 (part 0x03 (0x00 ∷ []) ∷ part 0x0a (0x00 ∷ []) ∷ part 0x02 (0x03 ∷ []) ∷ []) ∷
     -- minLength 9
@@ -176,6 +186,8 @@ table =
     has pathRows (part 0x04 [] ∷ part 0x02 (0x00 ∷ []) ∷ part 0x80 (0x00 ∷ []) ∷ []) (rec 0x0180 [] ∷ rec 0x0181 (le32 0) ∷ rec 0x0182 (le32 0) ∷ []) ∷
     -- Path: what is required
     has pathRows (part 0x04 [] ∷ []) (rec 0x0180 [] ∷ []) ∷
+    -- Path: numbers in between
+    has pathRows (part 0x04 [] ∷ part 0x02 (0x01 ∷ []) ∷ part 0x80 (0x01 ∷ []) ∷ []) (rec 0x0180 [] ∷ rec 0x0181 (le32 1) ∷ rec 0x0182 (le32 1) ∷ []) ∷
     -- an efidOrPath of 65 bytes
     lacks pathRows 7 0 (part 0x04 (replicate 65 0xff) ∷ []) ∷
     -- no efidOrPath
