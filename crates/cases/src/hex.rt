@@ -3,13 +3,14 @@ ghost use Prim.Native.Nat.{_≤_, _<_};
 ghost use mathlib.Core.Path.{_≡_};
 ghost use lib.ListN.{length};
 
-// The value of a hex digit, or 16.
+// The value of a hex digit, in capitals or not, or 16.
 fn digit(c: u8) -> u8
     ensures { λ r. ⌜ r ≤ 16 ⌝ }
 {
     match c {
         48..=57 => c - 48,
         65..=70 => c - 55,
+        97..=102 => c - 87,
         _ => 16,
     }
 }
