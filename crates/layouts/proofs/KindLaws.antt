@@ -32,8 +32,8 @@ use Rattle.layouts.specs.declared.table.Row.{Row}
 use Rattle.layouts.specs.declared.table.ObjectType.{ObjectType}
 use Rattle.layouts.specs.declared.table.ObjectType.the-variants.{PrivateKey, Certificate, Password, Sealed}
 use Rattle.layouts.specs.Reading.{Rec, rec, Res, took, fails, also, andThen, _then_, number}
-use Rattle.layouts.specs.Parts.{row, absent, due, valued, judged, payload, rowBody, component, components, rest, ended, element, sealed, keptOut}
-use Rattle.layouts.specs.Tables.{privateRows, passwordRows, typeOf}
+use Rattle.layouts.specs.Parts.{absent, due, valued, judged, payload, rowBody, component, components, rest, ended, element, sealed, keptOut}
+use Rattle.layouts.specs.Tables.{privateRows, pwdFlagsRow, passwordRows, typeOf}
 use Rattle.layouts.specs.Objects.{flagged, path, privateKey, certificateValue, certificate, password, typePart, typeBody}
 use Rattle.layouts.specs.Did.{Did, fell, Stays, Inside, Dues, flagsSet, bothFlags}
 use Rattle.layouts.proofs.DidLaws.{did-then, did-ends, did-fails, did-same, element-here}
@@ -150,7 +150,7 @@ module _ (s : List ℕ) (y : ObjectType) {a b : List ℕ} {o x e : ℕ} {r : Par
   type-second z d1 = record { is = λ at. did-ends d z (λ n. ended s e n) d1 }
 
 -- whether a flag word has bits 6 and 7 both set
-module _ (s : List ℕ) (a e : ℕ) {r : Read} (k : r ≡ read-element Bits 0x03 s a e) where
+module _ (s : List ℕ) (a e : ℕ) {r : Read} (k : r ≡ read-element Bits (pwdFlagsRow .tag) s a e) where
   pub flags-took : {n : Bool} (m : ℕ) {i : ℕ} → r ≡ read.Took n m i → eqb (m / 64 % 4) 3 ≡ bothFlags s a e
   unfolding bothFlags
   flags-took m z = rw (sym k ∙ z) refl
@@ -172,31 +172,28 @@ flags-then : {y : Bool} {w : Res} → Flags y w → (k : ℕ → Res) → Flags 
 flags-then no-flags k = no-flags
 flags-then (flags {b = b} {bs = bs} {ms = ms} {n = n} q) k = flags-also b bs ms q (k n)
 
-abbrev flagsRow : Row
-flagsRow = row 0x03 0x0190 Bits Required 0 0
-
 -- bits 6 and 7 are in the first of the four bytes
 number-bits : (m : ℕ) → number (le32 m) / 64 % 4 ≡ m / 64 % 4
 unfolding number
 number-bits m = omega arith
 
-flags-value : (at x : ℕ) (v : Value) (c : List ℕ) → Flags (flagsSet (placed at x v)) (valued flagsRow at x (judged flagsRow c v))
+flags-value : (at x : ℕ) (v : Value) (c : List ℕ) → Flags (flagsSet (placed at x v)) (valued pwdFlagsRow at x (judged pwdFlagsRow c v))
 unfolding payload
 flags-value at x (Wrong f) c = no-flags
-flags-value at x (Of n m) c = flags {b = rec 0x0190 (le32 m)} (rw (number-bits m) refl)
+flags-value at x (Of n m) c = flags {b = rec (pwdFlagsRow .kind) (le32 m)} (rw (number-bits m) refl)
 
-flags-due : (s : List ℕ) (at : ℕ) (h : Head) → Flags (flagsSet (dueElement Bits 0x03 s at h)) (due 0x03 Required (rowBody s flagsRow) at h)
+flags-due : (s : List ℕ) (at : ℕ) (h : Head) → Flags (flagsSet (dueElement Bits (pwdFlagsRow .tag) s at h)) (due (pwdFlagsRow .tag) Required (rowBody s pwdFlagsRow) at h)
 unfolding rowBody
 flags-due s at (No f p) = no-flags
 flags-due s at (At t a x) = go (eqb t 0x03)
   where
-    go : (b : Bool) → Flags (flagsSet (pick b (placed at x (value Bits (slice a x s))) (read.Refused NotDue at))) (choose b (λ _. rowBody s flagsRow at a x) (λ _. absent Required at (fails NotDue at)))
+    go : (b : Bool) → Flags (flagsSet (pick b (placed at x (value Bits (slice a x s))) (read.Refused NotDue at))) (choose b (λ _. rowBody s pwdFlagsRow at a x) (λ _. absent Required at (fails NotDue at)))
     go true = flags-value at x (value Bits (slice a x s)) (slice a x s)
     go false = no-flags
 
-flags-row : (s : List ℕ) (e at : ℕ) → Flags (bothFlags s at e) (component s 0x03 Required (rowBody s flagsRow) e at)
+flags-row : (s : List ℕ) (e at : ℕ) → Flags (bothFlags s at e) (component s (pwdFlagsRow .tag) Required (rowBody s pwdFlagsRow) e at)
 unfolding component bothFlags read-element
-flags-row s e at = by-choose (Flags (flagsSet (dueElement Bits 0x03 s at (header s at e)))) (ltb at e) (λ _ _. flags-due s at (header s at e)) (λ _ _. no-flags)
+flags-row s e at = by-choose (Flags (flagsSet (dueElement Bits (pwdFlagsRow .tag) s at (header s at e)))) (ltb at e) (λ _ _. flags-due s at (header s at e)) (λ _ _. no-flags)
 
 flags-parts : (s : List ℕ) (e x : ℕ) → Flags (bothFlags s x e) (parts s e x)
 unfolding components

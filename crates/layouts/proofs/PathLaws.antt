@@ -10,7 +10,6 @@ use lib.Dec.{ltb, eqb}
 use borrow.Author.Tests.{eq-eqb, ne-eqb}
 use Rattle.elements.specs.declared.fault.Fault.{Fault}
 use Rattle.elements.specs.declared.fault.Fault.the-variants.{PathPair, Missing, NotDue}
-use Rattle.elements.specs.declared.answer.Form.the-variants.{Octets}
 use Rattle.elements.specs.declared.answer.Head.{Head}
 use Rattle.elements.specs.declared.answer.Head.the-variants.{At, No}
 use Rattle.elements.specs.Choice.{choose}
@@ -24,8 +23,8 @@ use Rattle.layouts.specs.declared.table.Need.{Need}
 use Rattle.layouts.specs.declared.table.Need.the-variants.{Required, Optional, Default}
 use Rattle.layouts.specs.declared.table.Row.{Row}
 use Rattle.layouts.specs.Reading.{Rec, rec, Res, took, fails, andThen}
-use Rattle.layouts.specs.Parts.{row, Val, good, wrong, component, rowBody, components, ended, absent, due, judged, valued, surplus}
-use Rattle.layouts.specs.Tables.{pathRows, indexRow, lengthRow}
+use Rattle.layouts.specs.Parts.{Val, good, wrong, component, rowBody, components, ended, absent, due, judged, valued, surplus}
+use Rattle.layouts.specs.Tables.{pathRows, efidOrPathRow, indexRow, lengthRow}
 use Rattle.layouts.specs.Objects.{has, same, paired, path}
 use Rattle.layouts.specs.Did.{Did, did, fell, Stays, Paired}
 use Rattle.layouts.proofs.DidLaws.{did-then, did-ends, did-fails, did-as, did-same}
@@ -146,16 +145,13 @@ module _ {a b : List ℕ} {o x e : ℕ} (at : ℕ) where
   paired-did true q d z = rw (q, z) d
   paired-did false q d z = rw (q, z) (fell (did-same d))
 
-abbrev firstRow : Row
-firstRow = row 0x04 0x0180 Octets Required 0 64
-
 abbrev one : List ℕ → Row → ℕ → ℕ → Res
 one s r end at = component s (r .tag) (r .need) (rowBody s r) end at
 
 module _ (s : List ℕ) (at : ℕ) {a b : List ℕ} {o x e : ℕ} {r : Part} (d : Did a b o x e (components s (slice 0 1 pathRows) e x) r) where
-  first : Did a b o x e (one s firstRow e x) r
+  first : Did a b o x e (one s efidOrPathRow e x) r
   unfolding components
-  first = did-as d (then-none (one s firstRow e x))
+  first = did-as d (then-none (one s efidOrPathRow e x))
 
   pub path-first : {f : Fault} {p : ℕ} → r ≡ Fails f p → Did a b o x e (path s at x e) (Fails f p)
   unfolding path components
@@ -191,7 +187,7 @@ module _ (s : List ℕ) (at : ℕ) {a b : List ℕ} {o x e : ℕ} {r : Part} (d 
         path-more z3 = paired-fails at (rw z3 at four)
 
         module _ {n v : ℕ} (z3 : r3 ≡ Took n v) {y : Part} (pair : Paired at i j k n v y) where
-          t0 : Taken (one s firstRow e x) i
+          t0 : Taken (one s efidOrPathRow e x) i
           t0 = taken first z
 
           t1 : Taken (one s indexRow e i) j
@@ -210,9 +206,9 @@ module _ (s : List ℕ) (at : ℕ) {a b : List ℕ} {o x e : ℕ} {r : Part} (d 
           abbrev held : List Rec
           held = ((t0 .recs) ++ ((t1 .recs) ++ (t2 .recs))) ++ (t3 .recs)
 
-          has-held : (m : ℕ) → has m held ≡ (((eqb (firstRow .kind) m && not (eqb x i)) || ((eqb (indexRow .kind) m && not (eqb i j)) || (eqb (lengthRow .kind) m && not (eqb j k)))) || false)
+          has-held : (m : ℕ) → has m held ≡ (((eqb (efidOrPathRow .kind) m && not (eqb x i)) || ((eqb (indexRow .kind) m && not (eqb i j)) || (eqb (lengthRow .kind) m && not (eqb j k)))) || false)
           has-held m =
-              let u0 = seen-has (seen s firstRow e x) (t0 .is) m in
+              let u0 = seen-has (seen s efidOrPathRow e x) (t0 .is) m in
               let u1 = seen-has (seen s indexRow e i) (t1 .is) m in
               let u2 = seen-has (seen-at s lengthRow e j) (t2 .is) m in
               rw (has-append m ((t0 .recs) ++ ((t1 .recs) ++ (t2 .recs))) (t3 .recs), has-append m (t0 .recs) ((t1 .recs) ++ (t2 .recs)), has-append m (t1 .recs) (t2 .recs), u0, u1, u2, ended-none s e k (t3 .is)) refl

@@ -86,7 +86,7 @@ module _ (b : List ℕ) (j : ℕ) {n : ℕ} (k : n ≡ two b (j + 2)) where
     unfolding bears
     names-by h = rw (eq-eqb (two b (j + 2)) 0x0110 (sym k ∙ e), le-leb 4 (two b j) (omega arith)) refl
 
-  pub bears-own : {x : Key} → x ≡ Own → eqb n 0x0150 ≡ bears b x j
+  pub bears-own : {x : Key} → x ≡ Own → eqb n (ownIdRow .kind) ≡ bears b x j
   unfolding bears
   bears-own e = rw (e, k) refl
 

@@ -22,6 +22,7 @@ use Rattle.layouts.specs.Reading.{Rec, Res, took, fails, Body}
 use Rattle.elements.specs.Choice.{choose}
 use Rattle.elements.specs.declared.fault.Fault.the-variants.{PathPair, FillDiffers}
 use Rattle.layouts.specs.Objects.{same}
+use Rattle.layouts.specs.Tables.{pwdFlagsRow}
 use Rattle.layouts.specs.Parts.{absent, component, toEnd}
 use Rattle.layouts.specs.Files.{toFill, filled}
 use Rattle.layouts.specs.Book.{encode}
@@ -66,7 +67,7 @@ flagsSet (read.Took n m i) = eqb (m / 64 % 4) 3
 flagsSet (read.Refused f p) = false
 
 unfoldable pub bothFlags : List ℕ → ℕ → ℕ → Bool
-bothFlags s a e = flagsSet (element Bits 0x03 s a e)
+bothFlags s a e = flagsSet (element Bits (pwdFlagsRow .tag) s a e)
 
 -- what a component's body makes of what is due
 abbrev pub byDue : Body → ℕ → Due → Res

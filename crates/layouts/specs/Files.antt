@@ -62,20 +62,6 @@ equal [] (y ∷ m) = false
 equal (x ∷ l) [] = false
 equal (x ∷ l) (y ∷ m) = eqb x y && equal l m
 
--- one of these is equal to it
-abbrev pub met : List ℕ → List (List ℕ) → Bool
-met x [] = false
-met x (y ∷ ys) = equal x y || met x ys
-
--- the paths that entries name, in order
-abbrev pub paths : List Name → List (List ℕ)
-paths ns = map (λ (n : Name). n .path) ns
-
--- "12 paths: EF.OD names a path twice": how many path entries come before the first that names a path once more; all, if none does
-unfoldable pub firstAgain : List (List ℕ) → List (List ℕ) → ℕ
-firstAgain before [] = 0
-firstAgain before (p ∷ ps) = choose (met p before) (λ _. 0) (λ _. suc (firstAgain (p ∷ before) ps))
-
 module _ (s : List ℕ) where
   -- "a first byte 00 or FF where an element would start begins the fill"
   abbrev pub toFill : ℕ → ℕ → Bool
@@ -222,6 +208,20 @@ module _ (s : List ℕ) where
   directories [] fs k = took [] [] 0
   directories (n ∷ ns) [] k = took [] [] 0
   directories (n ∷ ns) (f ∷ fs) k = counted (directory (n .tag) k (f .stop) (f .start)) (λ c _. directories ns fs (k + c))
+
+-- one of these is equal to it
+abbrev pub met : List ℕ → List (List ℕ) → Bool
+met x [] = false
+met x (y ∷ ys) = equal x y || met x ys
+
+-- the paths that entries name, in order
+abbrev pub paths : List Name → List (List ℕ)
+paths ns = map (λ (n : Name). n .path) ns
+
+-- "12 paths: EF.OD names a path twice": how many path entries come before the first that names a path once more; all, if none does
+unfoldable pub firstAgain : List (List ℕ) → List (List ℕ) → ℕ
+firstAgain before [] = 0
+firstAgain before (p ∷ ps) = choose (met p before) (λ _. 0) (λ _. suc (firstAgain (p ∷ before) ps))
 
 -- "13 twice: two authentication objects with equal own authId; place is the first object that repeats one": over the records, with the places of their objects
 unfoldable pub repeated : List (List ℕ) → ℕ → List ℕ → List Rec → Check

@@ -138,12 +138,13 @@ module _ (s : List ℕ) where
   unfoldable pub sealed : ℕ → List ℕ → ℕ → Body
   sealed kind front t at a e = keep (rec kind (front ++ slice at e s) ∷ []) e (innerRun t a e)
 
--- the tags that a rest does not have
+-- the tag of a component, unless it is required
 abbrev pub unlessRequired : Need → ℕ → List ℕ → List ℕ
 unlessRequired Required t ts = ts
 unlessRequired Optional t ts = t ∷ ts
 unlessRequired (Default d) t ts = t ∷ ts
 
+-- the tags that a rest does not have
 abbrev pub keptOut : List Row → List ℕ
 keptOut [] = []
 keptOut (r ∷ rs) = unlessRequired (r .need) (r .tag) (keptOut rs)

@@ -99,11 +99,13 @@ privateRows =
     -- modulusLength
     row 0x02 0x0183 Integer Required 0 65535 ∷ []
 
--- PasswordAttributes, before its Path
+-- PasswordAttributes, before its Path: pwdFlags has a rule of its own
+abbrev pub pwdFlagsRow : Row
+pwdFlagsRow = row 0x03 0x0190 Bits Required 0 0
+
 abbrev pub passwordRows : List Row
 passwordRows =
-    -- pwdFlags
-    row 0x03 0x0190 Bits Required 0 0 ∷
+    pwdFlagsRow ∷
     -- pwdType
     row 0x0a 0x0191 Integer Required 0 4 ∷
     -- minLength
@@ -121,6 +123,9 @@ passwordRows =
     []
 
 -- Path: index and length, "both or neither"
+abbrev pub efidOrPathRow : Row
+efidOrPathRow = row 0x04 0x0180 Octets Required 0 64
+
 abbrev pub indexRow : Row
 indexRow = row 0x02 0x0181 Integer Optional 0 65535
 
@@ -129,8 +134,7 @@ lengthRow = row 0x80 0x0182 Integer Optional 0 65535
 
 abbrev pub pathRows : List Row
 pathRows =
-    -- efidOrPath
-    row 0x04 0x0180 Octets Required 0 64 ∷
+    efidOrPathRow ∷
     indexRow ∷
     lengthRow ∷
     []
@@ -165,6 +169,7 @@ tagOf And = 0xa1
 tagOf Or = 0xa2
 tagOf Other = 0
 
+-- the kind of its record
 abbrev pub kindOf : Sort → ℕ
 kindOf Always = 0x0126
 kindOf Identifier = 0x0127
