@@ -1,34 +1,117 @@
 """What crates/cases prints of the cases on standard input."""
+import re
 import sys
+import zlib
+from dumps import read
 from elements import TAGS, Refused, contents, element, header, length, sealed
+from writes import write
+
+SHORT, MOST_ROOM, MOST_BYTES = 600, 131072, 139999
 
 
-def decoded(text):
-    """Pairs of hex digits; *N after a pair repeats its byte to N in all."""
-    out, i = bytearray(), 0
-    while i < len(text):
-        if text[i] == '*':
-            j = i + 1
-            while j < len(text) and text[j].isdigit():
-                j += 1
-            out += bytes([out[-1]]) * (int(text[i + 1:j]) - 1)
-            i = j
-        elif text[i] == ' ':
-            i += 1
-        else:
-            out.append(int(text[i:i + 2], 16))
-            i += 2
+class Bad(Exception):
+    """A line that is no case."""
+
+
+def decoded(text, most):
+    """Pairs of hex digits, and spaces; *N repeats the byte of the pair before it, or the bytes of the group (..), to N in all. At most so many bytes."""
+    out, unit, group = bytearray(), 0, None
+    for part in re.finditer(r'(?s)([0-9A-Fa-f]{2})|( )|(\()|(\))|\*([0-9]+)|(.)', text):
+        pair, _, opens, closes, times, other = part.groups()
+        if pair:
+            unit = len(out)
+            out.append(int(pair, 16))
+        elif opens:
+            if group is not None:
+                raise Bad
+            unit = group = len(out)
+        elif closes:
+            if group is None:
+                raise Bad
+            unit, group = group, None
+        elif times:
+            again = bytes(out[unit:])
+            if not 1 <= int(times) < 1000000 or not again:
+                raise Bad
+            out += again * min(int(times) - 1, most + 1)
+            unit = len(out)
+        elif other:
+            raise Bad
+        if len(out) > most:
+            raise Bad
+    if group is not None:
+        raise Bad
     return bytes(out)
+
+
+def number(text):
+    """The decimal number that is all of a text, below a million."""
+    if not re.fullmatch('[0-9]+', text) or int(text) > 999999:
+        raise Bad
+    return int(text)
+
+
+def served(what, made, refusal, room):
+    """What a service says that made these bytes, or gave a refusal, and was lent so much room."""
+    if made is not None and len(made) > room:
+        made, refusal = None, (14, len(made))
+    if made is None:
+        return 'refused %d at %d, output unchanged' % refusal
+    return '%s %d %s, past it unchanged' % (what, len(made), made.hex() if len(made) <= SHORT else 'adler-32 %08x' % zlib.adler32(made))
+
+
+def reading(room, s):
+    """A dump through the read service, with so much room for its book."""
+    answer = read(s)
+    return served('book', answer[1], None, room) if answer[0] == 'book' else served('book', None, answer[1:], room)
+
+
+def writing(room, s):
+    """A book through the write service, with so much room for its dump."""
+    return served('dump', write(s), (15, 0), room)
+
+
+def returned(s):
+    """A dump into its book, and back."""
+    answer = read(s)
+    if answer[0] == 'refused':
+        return 'refused %d at %d' % answer[1:]
+    return 'book %d, %s' % (len(answer[1]), 'the dump again' if write(answer[1]) == s else 'NOT THE DUMP')
+
+
+def spread(step, s):
+    """The book of a dump with one byte changed, at every place that is a multiple of step: what comes of it."""
+    answer = read(s)
+    if answer[0] == 'refused':
+        return 'refused %d at %d' % answer[1:]
+    book, told = answer[1], [0, 0]
+    for i in range(0, len(book), step):
+        was = book[i]
+        for other in ((was + 1) % 256, (was - 1) % 256, was ^ 128, 0, 255):
+            if other != was:
+                told[write(book[:i] + bytes([other]) + book[i + 1:]) is not None] += 1
+    return 'changed %d, refused %d, read back %d' % (sum(told), *told)
 
 
 def answer(word, rest):
     if word == 'length':
-        return length(int(rest)).hex()
+        return length(number(rest)).hex()
     room = None
-    if word == 'room':
+    if word in ('room', 'read', 'write', 'spread'):
         room, _, rest = rest.partition(' ')
-        word, room = 'bits', int(room)
-    s = decoded(rest)
+        room = number(room)
+    if word in ('read', 'write', 'spread'):
+        s = decoded(rest, MOST_BYTES)
+        if room > MOST_ROOM if word != 'spread' else room == 0:
+            raise Bad
+        return {'read': reading, 'write': writing, 'spread': spread}[word](room, s)
+    if word == 'back':
+        return returned(decoded(rest, 69999))
+    s = decoded(rest, 69999 if room is None else 15)
+    if word == 'room':
+        word = 'bits'
+    elif word not in TAGS and word not in ('header', 'sealed', 'rest'):
+        return 'unknown word'
     try:
         if word == 'header':
             return 'tag %02x from %d to %d' % header(s, 0, len(s))
@@ -51,7 +134,10 @@ def printed(text):
     for line in text.split('\n')[:-1]:
         if line and line[0] != '#':
             word, _, rest = line.partition(' ')
-            line += ' = ' + answer(word, rest)
+            try:
+                line += ' = ' + answer(word, rest)
+            except Bad:
+                line += ' = bad line'
         out.append(line + '\n')
     return ''.join(out)
 

@@ -63,7 +63,7 @@ def line():
     return (word + ' ' + s.hex().upper()).rstrip()
 
 
-def compare_elements(rounds):
+def compare(rounds, line):
     program = os.path.join(os.path.dirname(os.path.abspath(__file__)), '..', 'target', 'bin', 'cases')
     count = 0
     for seed in range(rounds):
@@ -77,6 +77,10 @@ def compare_elements(rounds):
             sys.exit(next('seed %d: %s, and not %s' % (seed, g, w) for g, w in zip(got.split('\n'), want.split('\n')) if g != w))
         count += text.count('\n')
     print('%d cases, no difference' % count)
+
+
+def compare_elements(rounds):
+    compare(rounds, line)
 
 
 # ---- dumps
@@ -150,6 +154,116 @@ def damaged(d):
     return bytes(d)
 
 
+def some_dump():
+    d = whole()
+    return damaged(d) if chance(.55) else d
+
+
+def reading():
+    return 'read %d %s' % (some([0, 60, 200, 2000]), some_dump().hex().upper())
+
+
+def compare_reads(rounds):
+    compare(rounds, reading)
+
+
+# ---- books
+
+INFO = tlv(0x30, tlv(0x02, b'\x01'), tlv(0x03, b'\x00'))
+
+
+def good_object(tag):
+    while True:
+        o = card_object(tag)
+        if read(record(1, INFO) + record(2, tlv(tag, tlv(0xA0, o))))[0] == 'book':
+            return o
+
+
+def rich():
+    """Up to eight entries, of objects that are accepted one by one; two of them may still have equal own authIds."""
+    entries, files = [], []
+    for n in range(random.randrange(1, 9)):
+        tag = random.randrange(0xA0, 0xAA)
+        objects = [good_object(tag) for _ in range(random.randrange(4))] if tag < 0xA9 else [tlv(0x05)]
+        if tag == 0xA9:
+            entries.append(tlv(tag, *objects))
+        elif chance(.5):
+            entries.append(tlv(tag, tlv(0xA0, *objects)))
+        else:
+            entries.append(tlv(tag, tlv(0x30, tlv(0x04, bytes([0x44, n])))))
+            files.append(named_file(bytes([0x44, n]), b''.join(objects) + some([b'', b'\x00', b'\xff' * 3])))
+    return record(1, INFO + some([b'', b'\x00\x00'])) + record(2, b''.join(entries) + maybe(.3, b'\xff')) + b''.join(files)
+
+
+def accepted_dump():
+    while True:
+        d = some([whole, rich, rich])()
+        if read(d)[0] == 'book':
+            return d
+
+
+def some_book():
+    return read(accepted_dump())[1]
+
+
+def records_of(b):
+    out = []
+    while b:
+        end = 2 + int.from_bytes(b[:2], 'little')
+        out.append((int.from_bytes(b[2:4], 'little'), b[4:end]))
+        b = b[end:]
+    return out
+
+
+def other_payload(payload):
+    if len(payload) == 4 and chance(.7):
+        return some([0, 1, 2, 4, 5, 8, 9, 64, 65, 192, 255, 256, 32767, 32768, 65535, 65536, 2 ** 32 - 1, random.randrange(2 ** 32)]).to_bytes(4, 'little')
+    return some([b'', payload[:-1], payload + loose(1), loose(len(payload)), loose(random.randrange(5))])
+
+
+def other_records(rs):
+    """The records of a book with one dropped, doubled, put elsewhere, changed with another, taken from another book, of another kind or with another payload."""
+    i, j = random.randrange(len(rs)), random.randrange(len(rs))
+    kind, payload = rs[i]
+    rs = list(rs)
+    way = random.randrange(8)
+    if way == 0:
+        del rs[i]
+    elif way == 1:
+        rs.insert(i, rs[i])
+    elif way == 2:
+        rs[i], rs[j] = rs[j], rs[i]
+    elif way == 3:
+        j = max(i - 1, 0)
+        rs[i], rs[j] = rs[j], rs[i]
+    elif way == 4:
+        rs.insert(i, some(records_of(some_book())))
+    elif way == 5:
+        rs[i] = (some([kind + 1, kind - 1, 0x100 + random.randrange(0xB0)]), payload)
+    elif way == 6:
+        rs[i:] = rs[max(i, j):]
+    else:
+        rs[i] = (kind, other_payload(payload))
+    return rs or [(0x101, b'')]
+
+
+def writing():
+    if chance(.05):
+        return 'back ' + some([some_dump, accepted_dump])().hex().upper()
+    if chance(.02):
+        return 'spread %d %s' % (some([7, 11, 13]), accepted_dump().hex().upper())
+    b = some_book()
+    for _ in range(some([0, 1, 1, 1, 2])):
+        b = b''.join(record(*r) for r in other_records(records_of(b)))
+    if chance(.25):
+        b = damaged(b)
+    return 'write %d %s' % (some([0, 20, 100, 2000, 2000, 2000]), b.hex().upper())
+
+
+def compare_writes(rounds):
+    compare(rounds, writing)
+
+
 def listed(b):
     return '(%s)' % ' ∷ '.join(['0x%02x' % x for x in b] + ['[]'])
 
@@ -159,9 +273,7 @@ def state_dumps(count):
     print('use mathlib.Core.Path.{_≡_, refl}\nuse mathlib.Core.List.{List, [], _∷_}\nuse Rattle.layouts.specs.Computing.{book, dump, refusal, answered, reading, rendering}')
     made = 0
     while made < count:
-        d = whole()
-        if chance(.55):
-            d = damaged(d)
+        d = some_dump()
         if len(d) > 260:
             continue
         made += 1
@@ -173,4 +285,4 @@ def state_dumps(count):
 
 
 if __name__ == '__main__':
-    {'elements': compare_elements, 'dumps': state_dumps}[sys.argv[1]](int(sys.argv[2]))
+    {'elements': compare_elements, 'reads': compare_reads, 'writes': compare_writes, 'dumps': state_dumps}[sys.argv[1]](int(sys.argv[2]))

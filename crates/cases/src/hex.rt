@@ -1,4 +1,5 @@
-// The bytes of a case: pairs of hex digits; *N after a pair repeats its byte to N in all; a space is passed over.
+// The bytes of a case: pairs of hex digits; a space is passed over. *N behind a pair repeats its byte to N in all, and behind a group (..) all
+// that the group holds; there is no group in a group. A text with anything else in it is no case.
 ghost use Prim.Native.Nat.{_≤_, _<_};
 ghost use mathlib.Core.Path.{_≡_};
 ghost use lib.ListN.{length};
@@ -21,7 +22,7 @@ pub struct Number {
     pub next: usize,
 }
 
-// The decimal number at `from`, below a million, and what follows it.
+// The decimal number at `from`, below a million, and what follows it; 0 that ends where it starts, if there is none.
 pub fn decimal(s: &[u8], from: usize) -> Number
     requires { ⌜ from ≤ length (now s) ⌝ }
     ensures { λ r. ⌜ (from ≤ r .next) × (r .next ≤ length (now (s .entry))) × (r .value < 1000000) ⌝ }
@@ -34,7 +35,10 @@ pub fn decimal(s: &[u8], from: usize) -> Number
             return Number { value: v, next: i };
         }
         if 99999 < v {
-            return Number { value: v, next: i };
+            return Number {
+                value: 0,
+                next: from,
+            };
         }
         v = v * 10 + d as usize;
         i += 1;
@@ -42,80 +46,213 @@ pub fn decimal(s: &[u8], from: usize) -> Number
     Number { value: v, next: i }
 }
 
-// b at out[n] and on, so many times or until out's end; where that is.
-fn fill(out: &mut [u8], n: usize, times: usize, b: u8) -> usize
-    requires { ⌜ n ≤ length (now out) ⌝ }
-    ensures { λ r. ⌜ (r ≤ length (now (out .exit))) × (length (now (out .exit)) ≡ length (now (out .entry))) ⌝ }
+// How far a text is read: where it goes on, how many bytes there are, where those start that *N would repeat, and where those of the group that is
+// open; `fine` if it is a case up to here.
+struct Text {
+    fine: bool,
+    next: usize,
+    count: usize,
+    unit: usize,
+    open: bool,
+    group: usize,
+}
+
+// The text is no case.
+fn wrong(t: Text, next: usize) -> Text
+    ensures { λ r. ⌜ (r .next ≡ next) × (r .count ≡ t .count) × (r .unit ≡ t .unit) × (r .group ≡ t .group) ⌝ }
 {
-    let mut i = n;
-    let mut left = times;
-    while 0 < left {
-        if out.len() <= i {
-            return i;
+    Text {
+        fine: false,
+        next: next,
+        count: t.count,
+        unit: t.unit,
+        open: t.open,
+        group: t.group,
+    }
+}
+
+fn passed(t: Text, next: usize) -> Text
+    ensures { λ r. ⌜ (r .next ≡ next) × (r .count ≡ t .count) × (r .unit ≡ t .unit) × (r .group ≡ t .group) ⌝ }
+{
+    Text {
+        fine: true,
+        next: next,
+        count: t.count,
+        unit: t.unit,
+        open: t.open,
+        group: t.group,
+    }
+}
+
+// At (: a group starts with the next byte, and there is nothing yet that could be repeated.
+fn opened(t: Text, next: usize) -> Text
+    requires { ⌜ (t .unit ≤ t .count) × (t .group ≤ t .count) ⌝ }
+    ensures { λ r. ⌜ (r .next ≡ next) × (r .count ≡ t .count) × (r .unit ≤ t .count) × (r .group ≤ t .count) ⌝ }
+{
+    if t.open {
+        return wrong(t, next);
+    }
+    Text {
+        fine: true,
+        next: next,
+        count: t.count,
+        unit: t.count,
+        open: true,
+        group: t.count,
+    }
+}
+
+// At ): the group is what *N would repeat.
+fn closed(t: Text, next: usize) -> Text
+    requires { ⌜ (t .unit ≤ t .count) × (t .group ≤ t .count) ⌝ }
+    ensures { λ r. ⌜ (r .next ≡ next) × (r .count ≡ t .count) × (r .unit ≤ t .count) × (r .group ≤ t .count) ⌝ }
+{
+    if t.open {
+        return Text {
+            fine: true,
+            next: next,
+            count: t.count,
+            unit: t.group,
+            open: false,
+            group: t.group,
+        };
+    }
+    wrong(t, next)
+}
+
+// The bytes from `from` to `to` once more, at out[n] and on, or until out's end; where that is.
+fn once(out: &mut [u8], from: usize, to: usize, n: usize) -> usize
+    requires { ⌜ (to ≤ length (now out)) × (n ≤ length (now out)) ⌝ }
+    ensures { λ r. ⌜ (n ≤ r) × (r ≤ length (now (out .exit))) × (length (now (out .exit)) ≡ length (now (out .entry))) ⌝ }
+{
+    let mut i = from;
+    let mut j = n;
+    while i < to {
+        if out.len() <= j {
+            return j;
         }
-        out[i] = b;
+        let b = out[i];
+        out[j] = b;
         i += 1;
+        j += 1;
+    }
+    j
+}
+
+// The bytes from `from` to n so many times in all, or until out's end; where that is.
+fn again(out: &mut [u8], from: usize, n: usize, times: usize) -> usize
+    requires { ⌜ n ≤ length (now out) ⌝ }
+    ensures { λ r. ⌜ (n ≤ r) × (r ≤ length (now (out .exit))) × (length (now (out .exit)) ≡ length (now (out .entry))) ⌝ }
+{
+    let mut j = n;
+    let mut left = times;
+    while 1 < left {
+        if out.len() <= j {
+            return j;
+        }
+        j = once(out, from, n, j);
         left -= 1;
     }
-    i
+    j
 }
 
-// The byte before out[n], if there is one, repeated until it is there so many times in all.
-fn again(out: &mut [u8], n: usize, times: usize) -> usize
-    requires { ⌜ n ≤ length (now out) ⌝ }
-    ensures { λ r. ⌜ (r ≤ length (now (out .exit))) × (length (now (out .exit)) ≡ length (now (out .entry))) ⌝ }
+// At *, behind which the text goes on at `next`: a number that is not 0, and something to repeat. What was repeated is not repeated once more.
+fn repeated(s: &[u8], out: &mut [u8], t: Text, next: usize) -> Text
+    requires { ⌜ (next ≤ length (now s)) × (t .unit ≤ t .count) × (t .group ≤ t .count) × (t .count ≤ length (now out)) ⌝ }
+    ensures { λ r. ⌜ (next ≤ r .next) × (r .unit ≤ r .count) × (r .group ≤ r .count) × (r .count ≤ length (now (out .exit))) × (length (now (out .exit)) ≡ length (now (out .entry))) ⌝ }
 {
-    if n == 0 {
-        return n;
+    let times = decimal(s, next);
+    if times.value == 0 {
+        return wrong(t, next);
     }
-    if times == 0 {
-        return n;
+    if t.unit == t.count {
+        return wrong(t, next);
     }
-    let last = out[n - 1];
-    fill(out, n, times - 1, last)
+    let n = again(out, t.unit, t.count, times.value);
+    Text {
+        fine: true,
+        next: times.next,
+        count: n,
+        unit: n,
+        open: t.open,
+        group: t.group,
+    }
 }
 
-// What stands at s[i], its bytes at out[n] and on: how many bytes there are now, and where s goes on.
-fn step(s: &[u8], i: usize, out: &mut [u8], n: usize) -> Number
-    requires { ⌜ (i < length (now s)) × (n ≤ length (now out)) ⌝ }
-    ensures { λ r. ⌜ (i < r .next) × (r .value ≤ length (now (out .exit))) × (length (now (out .exit)) ≡ length (now (out .entry))) ⌝ }
+// At a pair of digits, the first of them before `next`: its byte.
+fn pair(s: &[u8], first: u8, out: &mut [u8], t: Text, next: usize) -> Text
+    requires { ⌜ (t .unit ≤ t .count) × (t .group ≤ t .count) × (t .count ≤ length (now out)) ⌝ }
+    ensures { λ r. ⌜ (next ≤ r .next) × (r .unit ≤ r .count) × (r .group ≤ r .count) × (r .count ≤ length (now (out .exit))) × (length (now (out .exit)) ≡ length (now (out .entry))) ⌝ }
 {
-    if s[i] == b'*' {
-        let times = decimal(s, i + 1);
-        return Number {
-            value: again(out, n, times.value),
-            next: times.next,
-        };
+    if s.len() <= next {
+        return wrong(t, next);
     }
-    if s[i] == b' ' {
-        return Number {
-            value: n,
-            next: i + 1,
-        };
+    let high = digit(first);
+    if 15 < high {
+        return wrong(t, next);
     }
-    if s.len() - i < 2 {
-        return Number {
-            value: n,
-            next: i + 1,
-        };
+    let low = digit(s[next]);
+    if 15 < low {
+        return wrong(t, next);
     }
-    let b = digit(s[i]) % 16 * 16 + digit(s[i + 1]) % 16;
-    Number {
-        value: fill(out, n, 1, b),
-        next: i + 2,
+    let n = t.count;
+    if out.len() <= n {
+        return wrong(t, next);
+    }
+    out[n] = high * 16 + low;
+    Text {
+        fine: true,
+        next: next + 1,
+        count: n + 1,
+        unit: n,
+        open: t.open,
+        group: t.group,
     }
 }
 
-// The bytes of s from `from` on, into out; how many.
+// What stands where the text goes on, and its bytes behind those of before.
+fn step(s: &[u8], out: &mut [u8], t: Text) -> Text
+    requires { ⌜ (t .next < length (now s)) × (t .unit ≤ t .count) × (t .group ≤ t .count) × (t .count ≤ length (now out)) ⌝ }
+    ensures { λ r. ⌜ (t .next < r .next) × (r .unit ≤ r .count) × (r .group ≤ r .count) × (r .count ≤ length (now (out .exit))) × (length (now (out .exit)) ≡ length (now (out .entry))) ⌝ }
+{
+    let at = t.next;
+    let c = s[at];
+    let next = at + 1;
+    if c == b' ' {
+        return passed(t, next);
+    }
+    if c == b'(' {
+        return opened(t, next);
+    }
+    if c == b')' {
+        return closed(t, next);
+    }
+    if c == b'*' {
+        return repeated(s, out, t, next);
+    }
+    pair(s, c, out, t, next)
+}
+
+// The bytes of s from `from` on, into out, which has to be longer than they are: how many, or out's length if s is no case.
 pub fn decode(s: &[u8], from: usize, out: &mut [u8]) -> usize
     ensures { λ r. ⌜ (r ≤ length (now (out .exit))) × (length (now (out .exit)) ≡ length (now (out .entry))) ⌝ }
 {
-    let mut i = from;
-    let mut n = 0;
-    while i < s.len() {
-        let passed = step(s, i, out, n);
-        n = passed.value;
-        i = passed.next;
+    let mut t = Text {
+        fine: true,
+        next: from,
+        count: 0,
+        unit: 0,
+        open: false,
+        group: 0,
+    };
+    while t.next < s.len() {
+        t = step(s, out, t);
+        if !t.fine {
+            return out.len();
+        }
     }
-    n
+    if t.open {
+        return out.len();
+    }
+    t.count
 }

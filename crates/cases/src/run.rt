@@ -1,16 +1,17 @@
+use crate::book;
+use crate::dump;
 use crate::element;
 use crate::hex;
-use crate::hex::Number;
 use crate::hex::decimal;
 use crate::show;
 use elements::Form;
 use elements::header;
 use elements::put_length;
 use elements::sealed;
-ghost use Prim.Native.Nat.{_≤_};
+ghost use Prim.Native.Nat.{_≤_, _<_};
 ghost use lib.ListN.{length};
 
-// Whether a line starts with a word.
+// Whether a line's first word is this one.
 fn starts(line: &[u8], word: &[u8]) -> bool {
     if line.len() < word.len() {
         return false;
@@ -21,6 +22,9 @@ fn starts(line: &[u8], word: &[u8]) -> bool {
             return false;
         }
         i += 1;
+    }
+    if i < line.len() {
+        return line[i] == b' ';
     }
     true
 }
@@ -39,10 +43,24 @@ fn after(line: &[u8]) -> usize
     i
 }
 
-// The shortest length field of the number.
-fn shortest(n: usize) {
+// The line is no case.
+fn bad() {
+    show::word(b"bad line");
+}
+
+// The shortest length field of the number, with which the line ends.
+fn shortest(line: &[u8], from: usize)
+    requires { ⌜ from ≤ length (now line) ⌝ }
+{
+    let n = decimal(line, from);
+    if n.next == from {
+        return bad();
+    }
+    if n.next < line.len() {
+        return bad();
+    }
     let mut space = [0u8; 3];
-    let p = put_length(&mut space, 0, n);
+    let p = put_length(&mut space, 0, n.value);
     show::bytes(&space[..p]);
 }
 
@@ -83,7 +101,7 @@ fn valued(line: &[u8], s: &[u8]) {
 // The tags that may not occur in CIAInfo's rest.
 const KEPT_OUT: [u8; 3] = [0x04, 0x0c, 0x80];
 
-// A case of elements, or of one value.
+// A case of elements, of one value, or of a dump and back.
 fn case(line: &[u8], s: &[u8]) {
     if starts(line, b"header") {
         return show::head(header(s, 0, s.len()));
@@ -94,6 +112,9 @@ fn case(line: &[u8], s: &[u8]) {
     if starts(line, b"rest") {
         return show::run(sealed(s, 0, s.len(), 16, &KEPT_OUT));
     }
+    if starts(line, b"back") {
+        return book::back(s);
+    }
     valued(line, s);
 }
 
@@ -101,15 +122,91 @@ fn case(line: &[u8], s: &[u8]) {
 fn decoded(line: &[u8], from: usize) {
     let mut buf = [0u8; 70000];
     let n = hex::decode(line, from, &mut buf);
+    if n == buf.len() {
+        return bad();
+    }
     case(line, &buf[..n]);
 }
 
 // Named bits, written back into so much room.
-fn roomy(line: &[u8], room: Number) {
+fn roomy(line: &[u8], from: usize, room: usize) {
     let mut buf = [0u8; 16];
-    let from = room.next;
     let n = hex::decode(line, from, &mut buf);
-    element::number(Form::Bits, 0x03, &buf[..n], room.value);
+    if n == buf.len() {
+        return bad();
+    }
+    element::number(Form::Bits, 0x03, &buf[..n], room);
+}
+
+// A book or a dump, with so much room for what it is turned into.
+fn lend(line: &[u8], s: &[u8], room: usize) {
+    let mut space = [0u8; 131072];
+    if space.len() < room {
+        return bad();
+    }
+    if starts(line, b"write") {
+        return book::write(s, &mut space[..room]);
+    }
+    dump::read(s, &mut space[..room]);
+}
+
+// A case of whole dumps and books, with its number.
+fn served(line: &[u8], s: &[u8], n: usize)
+    requires { ⌜ n < 1000000 ⌝ }
+{
+    if starts(line, b"spread") {
+        if n == 0 {
+            return bad();
+        }
+        return book::spread(s, n);
+    }
+    lend(line, s, n);
+}
+
+// The bytes of a dump or book, and what becomes of it.
+fn serving(line: &[u8], from: usize, number: usize)
+    requires { ⌜ number < 1000000 ⌝ }
+{
+    let mut buf = [0u8; 140000];
+    let n = hex::decode(line, from, &mut buf);
+    if n == buf.len() {
+        return bad();
+    }
+    served(line, &buf[..n], number);
+}
+
+// A case with a number before its bytes: a room or a step.
+fn sized(line: &[u8], from: usize)
+    requires { ⌜ from ≤ length (now line) ⌝ }
+{
+    let number = decimal(line, from);
+    let next = number.next;
+    if next == from {
+        return bad();
+    }
+    if next < line.len() {
+        if line[next] != b' ' {
+            return bad();
+        }
+    }
+    if starts(line, b"room") {
+        return roomy(line, next, number.value);
+    }
+    serving(line, next, number.value);
+}
+
+// Whether a number stands before the bytes.
+fn numbered(line: &[u8]) -> bool {
+    if starts(line, b"room") {
+        return true;
+    }
+    if starts(line, b"read") {
+        return true;
+    }
+    if starts(line, b"write") {
+        return true;
+    }
+    starts(line, b"spread")
 }
 
 // A line as it is, and for a case the answer.
@@ -124,11 +221,10 @@ fn one(line: &[u8]) {
     show::word(b" = ");
     let from = after(line);
     if starts(line, b"length") {
-        let n = decimal(line, from);
-        return shortest(n.value);
+        return shortest(line, from);
     }
-    if starts(line, b"room") {
-        return roomy(line, decimal(line, from));
+    if numbered(line) {
+        return sized(line, from);
     }
     decoded(line, from);
 }

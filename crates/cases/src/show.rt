@@ -18,6 +18,11 @@ fn byte(b: u8) {
     io::print_hex(STDOUT_FILENO, b as u64, 2);
 }
 
+// A number of 32 bits in hex.
+pub fn digest(n: u64) {
+    io::print_hex(STDOUT_FILENO, n, 8);
+}
+
 // The bytes in hex.
 pub fn bytes(s: &[u8]) {
     let mut i = 0;

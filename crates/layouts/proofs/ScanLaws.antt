@@ -1,14 +1,15 @@
 -- How the code goes over records: what a loop has passed, and what is left.
 use Prim.Native.Nat.{ℕ, suc, _+_, _-_, _<_, _≤_}
 use mathlib.Core.Path.{_≡_, refl, sym, ap, _∙_}
-use mathlib.Core.List.{List, [], _∷_, _++_, map-append, append-assoc, append-nil}
+use mathlib.Core.List.{List, [], _∷_, _++_, map, map-append, append-assoc, append-nil}
 use mathlib.Core.Bool.{Bool, true, false, _&&_, _||_}
+use native.Mathlib.Numerals.{add-one}
 use native.Mathlib.Omega.{arith}
-use lib.ListN.{length, getD, drop, List·getD-eq-default}
-use lib.Seq.{slice, slice-empty, getD-drop, drop-drop, length-slice}
+use lib.ListN.{length, getD, take, drop, set, length-set, List·getD-eq-default}
+use lib.Seq.{slice, slice-empty, getD-drop, drop-drop, length-slice, getD-set-same, getD-set-other, take-suc-set}
 use lib.Dec.{leb, eqb}
-use borrow.Author.Tests.{eq-eqb, ne-eqb, le-leb, lt-leb, eqb-true, leb-true}
-use Rattle.elements.specs.Choice.{choose}
+use borrow.Author.Tests.{eq-eqb, ne-eqb, le-leb, lt-leb, eqb-true, eqb-false, leb-true}
+use Rattle.elements.specs.Choice.{pick, choose}
 use Rattle.elements.specs.ChoiceLaws.{by-choose, both-true}
 use Rattle.elements.specs.Lists.{cons, begins, join}
 use Rattle.elements.specs.declared.fault.Fault.the-variants.{AuthIdTwice}
@@ -24,7 +25,7 @@ use Rattle.layouts.specs.Book.{encode}
 use Rattle.layouts.specs.Laws.{Laid}
 use Rattle.layouts.specs.DumpLaws.{equal-is}
 use Rattle.layouts.specs.CheckLaws.{ownIds}
-use Rattle.layouts.specs.Scan.{Lies, Holds, PathsTold, clashOf, IdsTold, NextName, last, found, NameTold, Whole, behind, bears, skip, keyAt, keysOf, Spans, MetTold, RepeatTold, counts}
+use Rattle.layouts.specs.Scan.{Lies, Holds, PathsTold, clashOf, IdsTold, NextName, last, found, NameTold, Whole, behind, bears, skip, keyAt, keysOf, Spans, MetTold, RepeatTold, counts, placedKeys, Places, Index, Indexed, Noted}
 use Rattle.layouts.proofs.DidLaws.{encode-append}
 use Rattle.layouts.proofs.LiesLaws.{First, Some, some, some-lie, none-lie, lie-same}
 
@@ -405,7 +406,7 @@ module _ {b : List ℕ} {i end j m : ℕ} (w : Passed b i end j m) where
                 let y : k ≡ m = rw u at c in
                 record { few = omega (arith, w .few); all = w .all; left = rest; before = w .before; gone = rw d g; again = rw y a; count = rw y l }
 
--- the loop of `id_twice`: k objects were passed, the last of them at `place`, and no own authId was repeated
+-- the loop of `id_twice_by`: k objects were passed, the last of them at `place`, and no own authId was repeated
 pub record Apart (b marks : List ℕ) (i end j k place : ℕ) : Type 0 where
   pub few : k ≤ j
   pub all : List Rec
@@ -479,3 +480,100 @@ module _ {b marks : List ℕ} {i end j k place : ℕ} (w : Apart b marks i end j
             gone = rw d (rw (no-own b j kind) at (gone-next g f));
             same = rw p (rw (repeated-first f (w .ids) place (drop k marks), eq-eqb (two b (j + 2)) 0x0120 kind, getD-drop k marks 0 0, z, drop-drop 1 k marks) at s);
           }
+
+-- the loop of `met_own`: what is left of the index decides
+pub record Unlike (b own : List ℕ) (c p e k : ℕ) : Type 0 where
+  pub places : Places b own c
+  pub upto : k ≤ c
+  pub same : met (slice p e b) (placedKeys b own c) ≡ met (slice p e b) (map (keyAt b Own) (slice k c own))
+
+pub unlike-none : {b own : List ℕ} {c : ℕ} (p e : ℕ) → Places b own c → Unlike b own c p e 0
+unlike-none p e w = record { places = w; upto = omega arith; same = refl }
+
+pub place-whole : {b own : List ℕ} {c : ℕ} (k : ℕ) {v : ℕ} → Places b own c → k < c → v ≡ getD own k 0 → Whole b v
+place-whole k w h q = rw q (w .whole k h)
+
+module _ {b own : List ℕ} {c p e k : ℕ} (w : Unlike b own c p e k) where
+  pub unlike-all : c ≤ k → false ≡ met (slice p e b) (placedKeys b own c)
+  unlike-all h =
+      let z : k ≡ c = omega (arith, w .upto) in
+      sym (w .same ∙ rw (z, slice-empty c own) refl)
+
+  module _ (h : k < c) {v : ℕ} (q : v ≡ getD own k 0) {t : Bool} (r : t ≡ (bears b Own v && equal (slice p e b) (keyAt b Own v))) where
+    -- the record at the k-th place decides, or those that follow
+    place-or : met (slice p e b) (placedKeys b own c) ≡ (t || met (slice p e b) (map (keyAt b Own) (slice (k + 1) c own)))
+    place-or = w .same ∙ rw (r, q, w .places .bearing k h, cons own k c h (w .places .within)) refl
+
+    pub unlike-found : t ≡ true → true ≡ met (slice p e b) (placedKeys b own c)
+    unlike-found u = sym (rw u at place-or)
+
+    pub unlike-next : t ≡ false → Unlike b own c p e (k + 1)
+    unlike-next u = record { places = w .places; upto = omega arith; same = rw u at place-or }
+
+-- what `noted` makes of an index
+pub noted-full : (b own : List ℕ) (c j r : ℕ) → 128 ≤ r → Noted b own own c j r
+noted-full b own c j r h = record { is = λ ids x. record { room = x .room; places = λ l. absurd (omega arith); are = λ l. absurd (omega arith) } }
+
+module _ (b own : List ℕ) (c j : ℕ) {t : Bool} (e : t ≡ bears b Own j) where
+  pub noted-same : t ≡ false → Noted b own own c j c
+  noted-same u = record { is = λ ids x. record { room = x .room; places = x .places; are = λ l. rw (sym e ∙ u, append-nil) (x .are l) } }
+
+  pub noted-more : t ≡ true → c < 128 → Whole b j → Noted b own (set own c j) c j (c + 1)
+  noted-more u h w = record {
+    is = λ ids x. record {
+      room = rw (length-set own c j) (x .room);
+      places = λ _. record {
+        within = rw (length-set own c j) (omega (arith, x .room));
+        whole = λ k l. by-place (Whole b) w (x .places h .whole) (x .room) k l;
+        bearing = λ k l. by-place (λ (n : ℕ). bears b Own n ≡ true) (sym e ∙ u) (x .places h .bearing) (x .room) k l;
+      };
+      are = λ _. all ids x;
+    };
+  }
+    where
+      by-place : (P : ℕ → Type 0) → P j → ((k : ℕ) → k < c → P (getD own k 0)) → 128 ≤ length own → (k : ℕ) → k < c + 1 → P (getD (set own c j) k 0)
+      by-place P here there r k l = go (eqb k c) refl
+        where
+          go : (v : Bool) → eqb k c ≡ v → P (getD (set own c j) k 0)
+          go true q = rw (eqb-true k c q, getD-set-same own c j 0 (omega (arith, r, h))) here
+          go false q = let n : k ≡ c → ⊥ = eqb-false k c q in rw (getD-set-other own c k j 0 n) (there k (omega (arith, n)))
+
+      all : (ids : List (List ℕ)) → Index b own c ids → placedKeys b (set own c j) (c + 1) ≡ ids ++ pick (bears b Own j) (keyAt b Own j ∷ []) []
+      all ids x = rw (sym e ∙ u, add-one, take-suc-set own c j (omega (arith, x .room)), map-append (keyAt b Own) (take c own) (j ∷ []), x .are h) refl
+
+-- an index of no records
+pub indexed-none : {b : List ℕ} {i end : ℕ} (own : List ℕ) → Holds b i end → 128 ≤ length own → Indexed b own i i 0
+unfolding ownIds gone-none
+indexed-none own h r = record {
+  rs = [];
+  lies = gone-lies (gone-none Own (h .lies));
+  index = record { room = r; places = λ _. record { within = omega arith; whole = λ k l. absurd (omega arith); bearing = λ k l. absurd (omega arith) }; are = λ _. refl };
+}
+
+module _ {b own : List ℕ} {i j c : ℕ} (w : Indexed b own i j c) where
+  pub indexed-holds : Holds b i j
+  indexed-holds = record { rs = w .rs; lies = w .lies }
+
+  pub indexed-places : c < 128 → Places b own c
+  indexed-places h = w .index .places h
+
+  -- what `met_own` answered
+  pub repeat-placed : {t : Bool} {q n : ℕ} {r : Bool} → c < 128 → t ≡ bears b Own j → t ≡ true → q ≡ skip Own → n ≡ behind b j → r ≡ met (slice (j + q) n b) (placedKeys b own c) → RepeatTold b Own i j r
+  unfolding keyAt
+  repeat-placed h e u k l m = record { is = λ rs z. rw (sym e ∙ u, ← k, ← l, lie-same z (w .lies), ← w .index .are h) m }
+
+  -- the record at j as well
+  pub indexed-next : {marks own′ : List ℕ} {end k place m n : ℕ} → Apart b marks i end j k place → j < end → Noted b own own′ c j m → n ≡ behind b j → Indexed b own′ i n m
+  unfolding gone-next
+  indexed-next {own′ = own′} {end = end} {m = m} {n = n} a h x d = go (some-lie (a .gone .after) h) (a .gone)
+    where
+      go : {all left : List Rec} {ids : List (List ℕ)} → Some b j end left → Gone b Own i end j all left ids → Indexed b own′ i n m
+      go (some {r = r} f) g = record {
+        rs = g .done ++ (r ∷ []);
+        lies = rw d (gone-lies (gone-next g f));
+        index = rw (keys-append Own (g .done) (r ∷ []), keys-first f Own [], keys-none Own, lie-same (gone-lies g) (w .lies)) (by-pick (bears b Own j) (x .is (ownIds (w .rs)) (w .index)));
+      }
+        where
+          by-pick : (t : Bool) → Index b own′ m (ownIds (w .rs) ++ pick t (keyAt b Own j ∷ []) []) → Index b own′ m (ownIds (w .rs) ++ choose t (λ _. keyAt b Own j ∷ []) (λ _. []))
+          by-pick true y = y
+          by-pick false y = y

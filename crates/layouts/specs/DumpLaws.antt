@@ -167,7 +167,7 @@ begins-first : {ks : List ℕ} {bs : List Rec} (ds : List Rec) → Begins ks fal
 begins-first ds (none t) = absurd t
 begins-first ds (some m) = some m
 
-used-is : (cs ds : List Rec) → used (cs ++ ds) ds ≡ cs
+pub used-is : (cs ds : List Rec) → used (cs ++ ds) ds ≡ cs
 used-is cs ds = take-at cs ds (length (cs ++ ds) - length ds) (omega (arith, length-append cs ds))
 
 abbrev Places : ℕ → List File → Type 0
@@ -238,6 +238,27 @@ module _ (s : List ℕ) (bytes : (i : ℕ) → getD s i 0 < 256) where
     dirs-ok both (over e) k = dirs {ds = []} (rw e (sym (slice-empty (length s) s))) (none tt) (omega arith) tt
     dirs-ok (pair {n = n} {ns = ns} {f = f} {fs = fs} p q) (link {at = at} w c) k =
         dir-counted n ns f at p w (directory-law s bytes small (n .tag) k (f .stop) (f .start) (w .order) (w .stop)) (λ i _. dirs-ok q c (k + i))
+
+-- the book of files that follow EF.OD and are framed well is not too long
+pub files-bound : (s : List ℕ) → ((i : ℕ) → getD s i 0 < 256) → length s ≤ 32768 → (ns : List Name) (fs : List File) (g at k : ℕ) {ds : List Rec} {ms : List ℕ} {n : ℕ} → at ≤ length s →
+    frames s g at ≡ files fs → follow s ns fs ≡ fine → directories s ns fs k ≡ took ds ms n → (size ds ≤ 4 * (length s - at)) × Laid (length s) ds
+files-bound s bytes small ns fs g at k {ds} {ms} {n} h e f d = by-chain (subst (ChainOk s at) e (chain-ok s bytes g at h))
+  where
+    by-dirs : DirOk s ns at (took ds ms n) → (size ds ≤ 4 * (length s - at)) × Laid (length s) ds
+    by-dirs (dirs _ _ z y) = (z, y)
+
+    by-follow : Chain s at fs → FollowOk s ns fs fine → (size ds ≤ 4 * (length s - at)) × Laid (length s) ds
+    by-follow c (follows w) = by-dirs (subst (DirOk s ns at) d (dirs-ok s bytes small w c k))
+
+    by-chain : ChainOk s at (files fs) → (size ds ≤ 4 * (length s - at)) × Laid (length s) ds
+    by-chain (chain c) = by-follow c (subst (FollowOk s ns fs) f (follow-ok s bytes ns fs (chain-places c)))
+
+-- what a part was read as, by its law
+pub ok-facts : {s : List ℕ} {q : List Rec → Rendered} {L : Look} {end at : ℕ} {w : Res} {bs : List Rec} {ms : List ℕ} {n : ℕ} → Ok s q L end at w → w ≡ took bs ms n → Facts s q L end at bs n
+ok-facts {s} {q} {L} {end} {at} {w} {bs} {ms} {n} o e = go (subst (Ok s q L end at) e o)
+  where
+    go : Ok s q L end at (took bs ms n) → Facts s q L end at bs n
+    go (takes f) = f
 
 -- what was accepted is rendered as it was, and its book is not too long
 data Good (s : List ℕ) : Answer → Type 0 where

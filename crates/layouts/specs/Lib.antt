@@ -12,6 +12,11 @@ pub mod Scan
 pub mod Frame
 pub mod Twelve
 pub mod Directories
+pub mod Stages
+pub mod Service
+pub mod RoundTrip
+pub mod Making
+pub mod Accept
 pub mod Demand2
 pub mod Computing
 pub mod Examples

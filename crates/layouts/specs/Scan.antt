@@ -1,9 +1,9 @@
 -- A book's records as they lie in bytes, and what the code finds by going over them.
 use Prim.Native.Nat.{ℕ, _+_, _≤_, _<_}
 use mathlib.Core.Path.{_≡_}
-use mathlib.Core.List.{List, [], _∷_}
-use mathlib.Core.Bool.{Bool, _&&_}
-use lib.ListN.{length, getD}
+use mathlib.Core.List.{List, [], _∷_, _++_, map}
+use mathlib.Core.Bool.{Bool, true, _&&_}
+use lib.ListN.{length, getD, take}
 use lib.Seq.{slice}
 use lib.Dec.{leb, eqb}
 use Rattle.elements.specs.Choice.{pick}
@@ -100,3 +100,29 @@ pub record RepeatTold (b : List ℕ) (x : Key) (i j : ℕ) (r : Bool) : Type 0 w
 -- one more if the record at j names a path
 abbrev pub counts : List ℕ → ℕ → ℕ → ℕ
 counts b j m = pick (bears b Path j) (m + 1) m
+
+-- the keys of the records at the first c places of an index
+abbrev pub placedKeys : List ℕ → List ℕ → ℕ → List (List ℕ)
+placedKeys b own c = map (keyAt b Own) (take c own)
+
+-- at each of the first c places of an index a record bears an own authId
+pub record Places (b own : List ℕ) (c : ℕ) : Type 0 where
+  pub within : c ≤ length own
+  pub whole : (k : ℕ) → k < c → Whole b (getD own k 0)
+  pub bearing : (k : ℕ) → k < c → bears b Own (getD own k 0) ≡ true
+
+-- an index of own authIds: it has room for 128 places, and with c below 128 they are those of all
+pub record Index (b own : List ℕ) (c : ℕ) (ids : List (List ℕ)) : Type 0 where
+  pub room : 128 ≤ length own
+  pub places : c < 128 → Places b own c
+  pub are : c < 128 → placedKeys b own c ≡ ids
+
+-- an index of the records from i to j
+pub record Indexed (b own : List ℕ) (i j c : ℕ) : Type 0 where
+  pub rs : List Rec
+  pub lies : Lies b i j rs
+  pub index : Index b own c (ownIds rs)
+
+-- the index has the own authId of the record at j as well, if it bears one
+pub record Noted (b own own′ : List ℕ) (c j r : ℕ) : Type 0 where
+  pub is : (ids : List (List ℕ)) → Index b own c ids → Index b own′ r (ids ++ pick (bears b Own j) (keyAt b Own j ∷ []) [])

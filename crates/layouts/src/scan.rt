@@ -3,8 +3,8 @@ ghost use mathlib.Core.Bool.{_&&_};
 ghost use Prim.Native.Nat.{_+_, _*_, _≤_};
 ghost use lib.ListN.{length, getD};
 ghost use lib.Seq.{slice};
-ghost use Rattle.layouts.specs.Files.{two, equal};
-ghost use Rattle.layouts.specs.Scan.{Holds, PathsTold, IdsTold, NameTold, Whole, Spans, behind, bears, keyAt, skip, counts, MetTold, RepeatTold};
+ghost use Rattle.layouts.specs.Files.{two, equal, met};
+ghost use Rattle.layouts.specs.Scan.{Holds, PathsTold, IdsTold, NameTold, Whole, Spans, behind, bears, keyAt, skip, counts, MetTold, RepeatTold, Places, placedKeys, Indexed, Noted};
 
 // Whether a path is named once more: how many path entries come before that one.
 pub enum Again {
@@ -25,7 +25,7 @@ enum Key {
 }
 
 // A number in two bytes, the low one first.
-fn of_two(x: u8, y: u8) -> usize
+pub fn of_two(x: u8, y: u8) -> usize
     ensures { λ r. ⌜ r ≡ x + 256 * y ⌝ }
 {
     x as usize + 256 * (y as usize)
@@ -199,18 +199,67 @@ fn mark(marks: &[u32], k: usize) -> usize
     0
 }
 
-// 13: whether an own authId is repeated among the records from i to `end`, whose k-th object is at marks[k].
-pub fn id_twice(b: &[u8], i: usize, end: usize, marks: &[u32]) -> Clash
-    requires { ⌜ Holds (now b) i end ⌝ }
+// Whether one of the records at the first c places of `own` bears the own authId that stands from p to e.
+fn met_own(b: &[u8], own: &[u32], c: usize, p: usize, e: usize) -> bool
+    requires { ⌜ Places (now b) (now own) c × Spans (now b) p e ⌝ }
+    ensures { λ r. ⌜ r ≡ met (slice p e (now (b .entry))) (placedKeys (now (b .entry)) (now (own .entry)) c) ⌝ }
+{
+    let mut k = 0;
+    while k < c {
+        if bears_it(b, Key::Own, wide(own[k]), p, e) {
+            return true;
+        }
+        k += 1;
+    }
+    false
+}
+
+// Whether the record at j bears an own authId that one of the records from i to j bears: by the index, or where that is full by the records.
+fn repeats_own(b: &[u8], i: usize, j: usize, own: &[u32], c: usize) -> bool
+    requires { ⌜ Indexed (now b) (now own) i j c × Whole (now b) j ⌝ }
+    ensures { λ r. ⌜ RepeatTold (now (b .entry)) Key.Own i j r ⌝ }
+{
+    if 128 <= c {
+        return repeats(b, Key::Own, i, j);
+    }
+    if is_bearing(b, Key::Own, j) {
+        return met_own(b, own, c, j + skipped(Key::Own), after(b, j));
+    }
+    false
+}
+
+// Adds the place of the record at j to the index if it bears an own authId; a place of more than 32 bits makes the index full.
+fn noted(b: &[u8], own: &mut [u32], c: usize, j: usize) -> usize
+    requires { ⌜ Whole (now b) j × (128 ≤ length (now own)) ⌝ }
+    ensures { λ r. ⌜ Noted (now (b .entry)) (now (own .entry)) (now (own .exit)) c j r ⌝ }
+{
+    if 128 <= c {
+        return c;
+    }
+    if is_bearing(b, Key::Own, j) {
+        if j < 0x100000000 {
+            own[c] = j as u32;
+            return c + 1;
+        }
+        return 128;
+    }
+    c
+}
+
+// 13, with room for the index of own authIds.
+fn id_twice_by(b: &[u8], i: usize, end: usize, marks: &[u32], own: &mut [u32]) -> Clash
+    requires { ⌜ Holds (now b) i end × (128 ≤ length (now own)) ⌝ }
     ensures { λ r. ⌜ IdsTold (now (b .entry)) (now (marks .entry)) i end r ⌝ }
 {
     let mut j = i;
     let mut k = 0;
     let mut place = 0;
+    let mut c = 0;
     while j < end {
-        if repeats(b, Key::Own, i, j) {
+        if repeats_own(b, i, j, own, c) {
             return Clash::At(place);
         }
+        c = noted(b, own, c, j);
         if word(b, j + 2) == 0x0120 {
             place = mark(marks, k);
             k += 1;
@@ -220,4 +269,13 @@ pub fn id_twice(b: &[u8], i: usize, end: usize, marks: &[u32]) -> Clash
         j = after(b, j);
     }
     Clash::None
+}
+
+// 13: whether an own authId is repeated among the records from i to `end`, whose k-th object is at marks[k].
+pub fn id_twice(b: &[u8], i: usize, end: usize, marks: &[u32]) -> Clash
+    requires { ⌜ Holds (now b) i end ⌝ }
+    ensures { λ r. ⌜ IdsTold (now (b .entry)) (now (marks .entry)) i end r ⌝ }
+{
+    let mut own = [0u32; 128];
+    id_twice_by(b, i, end, marks, &mut own)
 }

@@ -23,4 +23,6 @@ starts-spec =
     (λ c. search needs)  -- add-i
     (λ c. search needs)  -- loop-less
     (λ c. search needs)  -- loop-again
-    (λ c. search needs))  -- returns-3
+    (λ c. search needs)  -- shared-slice-read-result
+    (λ c. search needs)  -- returns-3
+    (λ c. search needs))  -- returns-4

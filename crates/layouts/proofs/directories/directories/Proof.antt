@@ -2,15 +2,8 @@ use Prim.Native.Nat.{_-_}
 use lib.ListN.{length}
 use Rattle.layouts.proofs.DirectoriesLaws.{Turning, turning-start, turning-short, turning-all, turning-word, turning-tag, turning-step, turning-sound, turning-fell, turning-lies, turning-again, file-mid, file-high, file-room, file-place, file-less}
 use borrow.Author.Needs.{needs}
-use native.Mathlib.Omega.{arith}
 use Rattle.layouts.proofs.directories.directories.Statement.{statement}
 use Rattle.layouts.proofs.directories.directories.Tie as tie
-use Rattle.layouts.proofs.directories.directories.Reads as reads
-use Rattle.layouts.proofs.directories.directories.Lts as lts
-use Rattle.layouts.proofs.entry.directory.Reads as directory-reads
-use Rattle.layouts.proofs.frame.named_frame.Reads as named-frame-reads
-use Rattle.layouts.proofs.scan.next_name.Reads as next-name-reads
-use Rattle.layouts.proofs.scan.word.Reads as word-reads
 
 abbrev Inv-loop : tie.InvT-loop
 Inv-loop s at i end k out₀ o marks₀ j₀ n₀ p₀ c₀ out marks j n p c = Turning s at out₀ out marks₀ marks i end o k j n p c

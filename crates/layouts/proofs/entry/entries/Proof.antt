@@ -1,13 +1,8 @@
 use Prim.Native.Nat.{_-_}
 use Rattle.layouts.proofs.EntryLaws.{Entries, entries-start, entries-broke, entries-next, entries-less, entries-all}
 use borrow.Author.Needs.{needs}
-use native.Mathlib.Omega.{arith}
 use Rattle.layouts.proofs.entry.entries.Statement.{statement}
 use Rattle.layouts.proofs.entry.entries.Tie as tie
-use Rattle.layouts.proofs.entry.entries.Reads as reads
-use Rattle.layouts.proofs.entry.entries.Lts as lts
-use Rattle.layouts.proofs.entry.entry.Reads as entry-reads
-use Rattle.layouts.proofs.fill.goes_on.Reads as goes-on-reads
 
 abbrev Inv-loop : tie.InvT-loop
 Inv-loop s end at out₀ o marks₀ k₀ n₀ p₀ out marks k n p = Entries s out₀ out marks₀ marks end at o k n p

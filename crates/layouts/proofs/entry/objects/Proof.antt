@@ -1,14 +1,8 @@
 use Prim.Native.Nat.{_-_}
 use Rattle.layouts.proofs.EntryLaws.{Objects, objects-start, objects-broke, objects-next, objects-less, objects-all}
 use borrow.Author.Needs.{needs}
-use native.Mathlib.Omega.{arith}
 use Rattle.layouts.proofs.entry.objects.Statement.{statement}
 use Rattle.layouts.proofs.entry.objects.Tie as tie
-use Rattle.layouts.proofs.entry.objects.Reads as reads
-use Rattle.layouts.proofs.entry.objects.Lts as lts
-use Rattle.layouts.proofs.entry.more_at.Reads as more-at-reads
-use Rattle.layouts.proofs.entry.put_place.Reads as put-place-reads
-use Rattle.layouts.proofs.object.object.Reads as object-reads
 
 abbrev Inv-loop : tie.InvT-loop
 Inv-loop s entry file k end at out₀ o marks₀ j₀ n₀ p₀ out marks j n p = Objects s entry file out₀ out marks₀ marks end at o k j n p

@@ -1,0 +1,60 @@
+-- What the services answer, and what they leave in the lent slice.
+use Prim.Native.Nat.{ℕ}
+use mathlib.Core.Path.{_≡_, sym, ap, _∙_}
+use mathlib.Core.List.{List, _++_}
+use lib.ListN.{length, drop}
+use lib.Dec.{leb}
+use Rattle.elements.specs.declared.fault.Fault.the-variants.{NoRoom, NoDump}
+use Rattle.elements.specs.Choice.{choose}
+use Rattle.layouts.specs.declared.dump.Outcome.{Outcome}
+use Rattle.layouts.specs.declared.dump.Outcome.the-variants.{Accepted, Refused}
+use Rattle.layouts.specs.Files.{Answer, accepted, refused, readDump}
+use Rattle.layouts.specs.Book.{encode}
+use Rattle.layouts.specs.Write.{Written, written, noBook, writeDump}
+
+-- an answer, and what the lent slice then holds
+pub record Served : Type 0 where
+  pub answer : Outcome
+  pub lent : List ℕ
+
+abbrev pub served : Outcome → List ℕ → Served
+served r b = record { answer = r; lent = b }
+
+-- "A refusal writes nothing, an acceptance nothing past its length": these bytes into the slice that held `a`; 14 with their number if it is too short
+unfoldable pub giving : List ℕ → List ℕ → Served
+giving bs a = choose (leb (length bs) (length a)) (λ _. served (Accepted (length bs)) (bs ++ drop (length bs) a)) (λ _. served (Refused NoRoom (length bs)) a)
+
+abbrev pub byAnswer : Answer → List ℕ → Served
+byAnswer (accepted rs) a = giving (encode rs) a
+byAnswer (refused f p) a = served (Refused f p) a
+
+-- a dump read into a slice that held `a`
+unfoldable pub reading : List ℕ → List ℕ → Served
+reading s a = byAnswer (readDump s) a
+
+-- the service read answered r, and the slice, which was a, is b
+pub record ReadTold (s a b : List ℕ) (r : Outcome) : Type 0 where
+  pub is : served r b ≡ reading s a
+
+-- a book written into a slice that held `a`: 15, "no accepted dump has this book; place 0", before 14
+abbrev pub byWritten : Written → List ℕ → Served
+byWritten (written d) a = giving d a
+byWritten noBook a = served (Refused NoDump 0) a
+
+unfoldable pub writing : List ℕ → List ℕ → Served
+writing b a = byWritten (writeDump b) a
+
+-- the service write answered r, and the slice, which was a, is c
+pub record WriteTold (b a c : List ℕ) (r : Outcome) : Type 0 where
+  pub is : served r c ≡ writing b a
+
+-- these bytes were handed over: the answer is r, and the slice, which was a, is b
+pub record Gives (bs a b : List ℕ) (r : Outcome) : Type 0 where
+  pub is : served r b ≡ giving bs a
+
+-- any two results that the contract allows are equal
+pub one-read : {s a b c : List ℕ} {q r : Outcome} → ReadTold s a b q → ReadTold s a c r → (q ≡ r) × (b ≡ c)
+one-read h g = let e = h .is ∙ sym (g .is) in (ap (λ (x : Served). x .answer) e, ap (λ (x : Served). x .lent) e)
+
+pub one-write : {b a c e : List ℕ} {q r : Outcome} → WriteTold b a c q → WriteTold b a e r → (q ≡ r) × (c ≡ e)
+one-write h g = let e = h .is ∙ sym (g .is) in (ap (λ (x : Served). x .answer) e, ap (λ (x : Served). x .lent) e)
