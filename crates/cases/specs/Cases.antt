@@ -14,8 +14,10 @@ use Rattle.elements.specs.Integer.{integer, whole, padded, magnitude, bare, big
 use Rattle.elements.specs.Bits.{bits, bitsOf, weigh, reversed}
 use Rattle.elements.specs.Time.{time, stated, digits, two, dated, clocked, daysOf, leap}
 use Rattle.elements.specs.Values.{value, element}
-use Rattle.layouts.specs.Computing.{Seen, readsCondition, book, dump, refusal, answered, reading as dumped}
-use Rattle.layouts.specs.Examples.{shared}
+use Rattle.rules.specs.Book.{records, recordsOf}
+use Rattle.links.specs.Links.{heldFrom, objectsFrom, states, answering, idKind, firstOf, bears, answers, stated as statedRows, objectRows, linksFrom, links, listed}
+use Rattle.rules.specs.Computing.{Seen, readsCondition, book, dump, refusal, answered, reading as dumped}
+use Rattle.rules.specs.Examples.{shared}
 
 -- an answer as document 01 gives it
 pub data Answer : Type 0 where
@@ -26,6 +28,8 @@ pub data Answer : Type 0 where
   refused : ℕ → ℕ → Answer
   -- a dump that is accepted, with the bytes of its book
   accepted : ℕ → Answer
+  -- the rows of a book's links, four numbers a row
+  rows : List ℕ → Answer
 
 abbrev answer : Read → Answer
 answer (Took false m e) = is m e
@@ -36,6 +40,13 @@ abbrev shown : Seen → Answer
 shown (book b) = accepted (length b)
 shown (dump d) = accepted (length d)
 shown (refusal n p) = refused n p
+
+-- the links of a dump's book
+unfoldable linked : Seen → Answer
+unfolding records recordsOf heldFrom objectsFrom states answering idKind firstOf bears answers statedRows objectRows linksFrom links listed
+linked (book b) = rows (listed (links (records b)))
+linked (dump d) = accepted (length d)
+linked (refusal n p) = refused n p
 
 -- reading one element of a tag and a form at the start of the bytes
 unfoldable reading : Form → ℕ → List ℕ → Answer
@@ -57,7 +68,7 @@ abbrev case : Name → Answer → Answer → Case
 case n g w = record { name = n; got = g; want = w }
 
 pub table : List Case
-unfolding reading answered
+unfolding reading answered linked
 table =
     case (P 1) (reading Bits 0x03 (0x03 ∷ 0x02 ∷ 0x07 ∷ 0x80 ∷ [])) (is 1 4) ∷
     case (P 2) (reading Bits 0x03 (0x03 ∷ 0x03 ∷ 0x06 ∷ 0x20 ∷ 0x40 ∷ [])) (is 516 5) ∷
@@ -72,9 +83,11 @@ table =
     case (P 10) (reading Time 0x18 (0x18 ∷ 0x0f ∷ 50 ∷ 48 ∷ 48 ∷ 48 ∷ 48 ∷ 50 ∷ 50 ∷ 57 ∷ 48 ∷ 48 ∷ 48 ∷ 48 ∷ 48 ∷ 48 ∷ 90 ∷ [])) (is 0 17) ∷
     case (P 10) (reading Time 0x18 (0x18 ∷ 0x0f ∷ 49 ∷ 57 ∷ 48 ∷ 48 ∷ 48 ∷ 50 ∷ 50 ∷ 57 ∷ 48 ∷ 48 ∷ 48 ∷ 48 ∷ 48 ∷ 48 ∷ 90 ∷ [])) (refused 6 0) ∷
     case Shared (shown (dumped shared)) (accepted 126) ∷
+    -- "auth 0 42 1", "cert 0 47 -", "auth 1 84 -"
+    case Shared (linked (dumped shared)) (rows (1 ∷ 0 ∷ 42 ∷ 1 ∷ 3 ∷ 0 ∷ 47 ∷ 4294967295 ∷ 1 ∷ 1 ∷ 84 ∷ 4294967295 ∷ [])) ∷
     []
 
 -- every case is answered as document 01 says
 pub all-hold : map (λ c. c .got) table ≡ map (λ c. c .want) table
-unfolding table reading answered
+unfolding table reading answered linked
 all-hold = refl

@@ -6,7 +6,7 @@ use native.Mathlib.Nat.{not-suc-le-zero, le-of-suc-le-suc}
 use native.Mathlib.Numerals.{add-one}
 use native.Mathlib.Omega.{arith}
 use lib.ListN.{length, getD, take, drop}
-use lib.Seq.{slice, slice-empty, slice-cons, length-slice, take-nil}
+use lib.Seq.{slice, slice-empty, slice-cons, length-slice, take-nil, length-take-le}
 
 -- every member is a byte, as a slice's are
 abbrev pub Bytes : List ℕ → Type 0
@@ -55,3 +55,7 @@ lent zero j l = ap {B = List ℕ} (λ n. take n l) (let z : j - 0 ≡ j = omega 
 lent (suc i) zero l = ap {B = List ℕ} (λ n. take n (drop (suc i) l)) (let z : 0 - suc i ≡ 0 = omega arith in z)
 lent (suc i) (suc j) [] = take-nil (suc j - suc i)
 lent (suc i) (suc j) (x ∷ l) = ap {B = List ℕ} (λ n. take n (drop i l)) (let z : suc j - suc i ≡ j - i = omega arith in z) ∙ lent i j l
+
+-- as many as are taken
+pub count-take : (n : ℕ) (l : List ℕ) → n ≤ length l → n ≡ length (take n l)
+count-take n l h = sym (length-take-le n l h)

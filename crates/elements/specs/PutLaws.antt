@@ -5,7 +5,7 @@ use Prim.Native.Nat.{ℕ, suc, _+_, _≤_}
 use native.Mathlib.Nat.{add-zero}
 use native.Mathlib.Omega.{arith}
 use lib.ListN.{length, take, drop, set, length-append}
-use lib.Seq.{sets, length-sets, sets-eq, set-out}
+use lib.Seq.{slice, sets, length-sets, sets-eq, set-out, take-at, drop-at, length-take-le}
 use Rattle.elements.specs.Put.{Put}
 
 -- a run of stores is the first part's and then the second's, with no condition
@@ -48,6 +48,20 @@ put-length {a} {b} {o} {p} {x} f = rw (f .to) (length-sets a o x)
 -- a put that fits is a splice
 pub put-fits : {a b : List ℕ} {o p : ℕ} {x : List ℕ} → Put a b o p x → p ≤ length a → b ≡ take o a ++ x ++ drop p a
 put-fits {a} {b} {o} {p} {x} f h = f .to ∙ rw (f .at) (sets-eq x a o (omega (arith, f .at)))
+
+-- what a put left in its place
+pub put-there : {a b : List ℕ} {o p : ℕ} {x : List ℕ} → Put a b o p x → p ≤ length a → slice o p b ≡ x
+put-there {a} {b} {o} {p} {x} f h =
+    let l : length (take o a) ≡ o = length-take-le o a (omega (arith, f .at)) in
+    let m : length (take o a ++ x) ≡ p = omega (arith, length-append (take o a) x, f .at) in
+    rw (put-fits f h, take-at (take o a ++ x) (drop p a) p m, drop-at (take o a) x o l) refl
+
+-- what a put left up to its end
+pub put-upto : {a b : List ℕ} {o p : ℕ} {x : List ℕ} → Put a b o p x → p ≤ length a → take p b ≡ take o a ++ x
+put-upto {a} {b} {o} {p} {x} f h =
+    let l : length (take o a) ≡ o = length-take-le o a (omega (arith, f .at)) in
+    let m : length (take o a ++ x) ≡ p = omega (arith, length-append (take o a) x, f .at) in
+    rw (put-fits f h) (take-at (take o a ++ x) (drop p a) p m)
 
 -- into no room nothing is put
 pub put-empty : {b : List ℕ} {o p : ℕ} {x : List ℕ} → Put [] b o p x → b ≡ []

@@ -11,22 +11,21 @@ use Rattle.elements.specs.declared.fault.Fault.{Fault}
 use Rattle.elements.specs.Choice.{choose}
 use Rattle.elements.specs.Lists.{Bytes}
 use Rattle.elements.specs.Put.{Put}
-use Rattle.elements.specs.PutLaws.{put-length}
-use Rattle.layouts.specs.declared.dump.Outcome.{Outcome}
-use Rattle.layouts.specs.declared.dump.Outcome.the-variants.{Accepted, Refused}
-use Rattle.layouts.specs.declared.made.Made.{Made}
-use Rattle.layouts.specs.declared.made.Made.the-variants.{Took, Long}
+use Rattle.elements.specs.PutLaws.{put-length, put-upto}
+use Rattle.rules.specs.declared.outcome.Outcome.{Outcome}
+use Rattle.rules.specs.declared.outcome.Outcome.the-variants.{Accepted, Refused}
+use Rattle.writer.specs.declared.made.Made.{Made}
+use Rattle.writer.specs.declared.made.Made.the-variants.{Took, Long}
 use Rattle.layouts.specs.declared.accept.Candidate.{Candidate}
 use Rattle.layouts.specs.declared.accept.Candidate.the-variants.{Dump, None}
-use Rattle.layouts.specs.Files.{Answer, accepted, refused, equal, readDump}
-use Rattle.layouts.specs.Book.{encode, records}
-use Rattle.layouts.specs.Render.{render}
-use Rattle.layouts.specs.Write.{written, noBook, confirmed, writeDump}
-use Rattle.layouts.specs.Demand2.{refused-if-none, none-if-refused, written-then-read, book-most}
-use Rattle.layouts.specs.Stages.{Reads, reads, falls}
-use Rattle.layouts.specs.Making.{Fitted, fits, beyond}
+use Rattle.rules.specs.Files.{Answer, accepted, refused, equal, readDump}
+use Rattle.rules.specs.Book.{encode, records}
+use Rattle.rules.specs.Render.{render}
+use Rattle.rules.specs.Write.{written, noBook, confirmed, writeDump}
+use Rattle.rules.specs.Demand2.{refused-if-none, none-if-refused, written-then-read, book-most}
+use Rattle.reader.specs.Stages.{Reads, reads, falls}
+use Rattle.writer.specs.Making.{Fitted, fits, beyond}
 use Rattle.layouts.specs.Accept.{confirming, Confirms, Tried, holds, none, BookTold}
-use Rattle.layouts.proofs.StageLaws.{put-upto}
 
 -- what reading the candidate says
 module _ (b d : List ℕ) {z w : List ℕ} {x : Outcome} (m : Reads [] z w 0 (readDump d) x) where

@@ -1,4 +1,5 @@
 -- What a service hands over.
+use Rattle.elements.specs.Lists.{count-take}
 use Prim.Native.Nat.{ℕ, _<_, _≤_}
 use mathlib.Core.Path.{_≡_, refl, sym, _∙_}
 use mathlib.Core.List.{List, []}
@@ -9,19 +10,18 @@ use borrow.Author.Tests.{le-leb, lt-leb}
 use Rattle.elements.specs.declared.fault.Fault.{Fault}
 use Rattle.elements.specs.declared.fault.Fault.the-variants.{NoRoom, NoDump}
 use Rattle.elements.specs.Put.{Put}
-use Rattle.elements.specs.PutLaws.{put-length, put-fits}
-use Rattle.layouts.specs.declared.dump.Outcome.{Outcome}
-use Rattle.layouts.specs.declared.dump.Outcome.the-variants.{Accepted, Refused}
-use Rattle.layouts.specs.Reading.{Rec}
-use Rattle.layouts.specs.Files.{Answer, accepted, refused, readDump}
-use Rattle.layouts.specs.Book.{encode}
+use Rattle.elements.specs.PutLaws.{put-length, put-fits, put-upto}
+use Rattle.rules.specs.declared.outcome.Outcome.{Outcome}
+use Rattle.rules.specs.declared.outcome.Outcome.the-variants.{Accepted, Refused}
+use Rattle.rules.specs.Reading.{Rec}
+use Rattle.rules.specs.Files.{Answer, accepted, refused, readDump}
+use Rattle.rules.specs.Book.{encode}
 use Rattle.layouts.specs.declared.accept.Candidate.{Candidate}
 use Rattle.layouts.specs.declared.accept.Candidate.the-variants.{Dump, None}
-use Rattle.layouts.specs.Write.{writeDump}
+use Rattle.rules.specs.Write.{writeDump}
 use Rattle.layouts.specs.Accept.{Tried, holds, none}
-use Rattle.layouts.specs.Stages.{Reads, reads, falls}
+use Rattle.reader.specs.Stages.{Reads, reads, falls}
 use Rattle.layouts.specs.Service.{served, giving, byAnswer, reading, ReadTold, byWritten, writing, WriteTold, Gives}
-use Rattle.layouts.proofs.StageLaws.{put-upto, count-take}
 
 module _ (from : List ℕ) (n : ℕ) (long : n ≤ length from) where
   pub gives-none : {a : List ℕ} → length a < n → Gives (take n from) a a (Refused NoRoom n)

@@ -6,9 +6,9 @@ use mathlib.Core.List.{List}
 use lib.ListN.{length, take}
 use Rattle.layouts.specs.declared.accept.Candidate.{Candidate}
 use Rattle.layouts.specs.declared.accept.Candidate.the-variants.{Dump, None}
-use Rattle.layouts.specs.Files.{readDump}
-use Rattle.layouts.specs.Meaning.{AcceptedBook}
-use Rattle.layouts.specs.Write.{Written, written, noBook, confirmed, writeDump}
+use Rattle.rules.specs.Files.{readDump}
+use Rattle.rules.specs.Meaning.{AcceptedBook}
+use Rattle.rules.specs.Write.{Written, written, noBook, confirmed, writeDump}
 
 -- what is written if reading the candidate d gave the book, or did not
 abbrev pub confirming : Bool → List ℕ → Written

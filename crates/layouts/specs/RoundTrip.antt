@@ -11,13 +11,13 @@ use borrow.Author.Tests.{le-leb}
 use Rattle.elements.specs.declared.fault.Fault.the-variants.{NoRoom, NoDump}
 use Rattle.elements.specs.Choice.{choose}
 use Rattle.elements.specs.Lists.{Bytes}
-use Rattle.layouts.specs.declared.dump.Outcome.{Outcome}
-use Rattle.layouts.specs.declared.dump.Outcome.the-variants.{Accepted, Refused}
-use Rattle.layouts.specs.Files.{Answer, accepted, refused, readDump}
-use Rattle.layouts.specs.Book.{encode}
-use Rattle.layouts.specs.Write.{Written, written, noBook, writeDump}
-use Rattle.layouts.specs.Meaning.{Has, AcceptedBook}
-use Rattle.layouts.specs.Demand2.{read-then-written, written-then-read, refused-if-none, none-if-refused}
+use Rattle.rules.specs.declared.outcome.Outcome.{Outcome}
+use Rattle.rules.specs.declared.outcome.Outcome.the-variants.{Accepted, Refused}
+use Rattle.rules.specs.Files.{Answer, accepted, refused, readDump}
+use Rattle.rules.specs.Book.{encode}
+use Rattle.rules.specs.Write.{Written, written, noBook, writeDump}
+use Rattle.rules.specs.Meaning.{Has, AcceptedBook}
+use Rattle.rules.specs.Demand2.{read-then-written, written-then-read, refused-if-none, none-if-refused}
 use Rattle.layouts.specs.Service.{Served, served, giving, byAnswer, reading, ReadTold, byWritten, writing, WriteTold}
 
 -- what was handed over is the first n bytes of the slice

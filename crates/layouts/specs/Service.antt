@@ -6,11 +6,11 @@ use lib.ListN.{length, drop}
 use lib.Dec.{leb}
 use Rattle.elements.specs.declared.fault.Fault.the-variants.{NoRoom, NoDump}
 use Rattle.elements.specs.Choice.{choose}
-use Rattle.layouts.specs.declared.dump.Outcome.{Outcome}
-use Rattle.layouts.specs.declared.dump.Outcome.the-variants.{Accepted, Refused}
-use Rattle.layouts.specs.Files.{Answer, accepted, refused, readDump}
-use Rattle.layouts.specs.Book.{encode}
-use Rattle.layouts.specs.Write.{Written, written, noBook, writeDump}
+use Rattle.rules.specs.declared.outcome.Outcome.{Outcome}
+use Rattle.rules.specs.declared.outcome.Outcome.the-variants.{Accepted, Refused}
+use Rattle.rules.specs.Files.{Answer, accepted, refused, readDump}
+use Rattle.rules.specs.Book.{encode}
+use Rattle.rules.specs.Write.{Written, written, noBook, writeDump}
 
 -- an answer, and what the lent slice then holds
 pub record Served : Type 0 where

@@ -1,13 +1,13 @@
-use crate::dump::Outcome;
-use crate::dump::read_into;
-use crate::made::Made;
-use crate::render::render_into;
-use crate::scan::same_bytes;
+use reader::read_into;
+use rules::Outcome;
+use rules::same_bytes;
+use writer::Made;
+use writer::render_into;
 ghost use Prim.Native.Nat.{_≤_};
 ghost use mathlib.Core.Path.{_≡_};
 ghost use lib.ListN.{length, take};
 ghost use lib.Seq.{slice};
-ghost use Rattle.layouts.specs.Files.{equal};
+ghost use Rattle.rules.specs.Files.{equal};
 ghost use Rattle.layouts.specs.Accept.{Confirms, Tried, BookTold};
 
 // The candidate of a book: how many bytes it has if it has the book; or no dump has it.

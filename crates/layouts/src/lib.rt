@@ -1,44 +1,8 @@
-// The layouts of document 01: what a dump means, and its book.
+// The layouts of document 01 as services: a dump into its book, a book into its dump, and whether a book is one.
 mod accept;
-mod book;
-mod class;
-mod common;
-mod condition;
-mod directories;
-mod dump;
-mod entry;
-mod fill;
-mod frame;
-mod info;
-mod keep;
-mod kind;
-mod leaf;
-mod made;
-mod make_common;
-mod make_condition;
-mod make_entry;
-mod make_kind;
-mod make_object;
-mod object;
-mod part;
-mod path;
-mod place;
-mod records;
-mod render;
-mod row;
-mod rows;
-mod scan;
 mod service;
-mod table;
-mod twelve;
 
 pub use accept::is_book;
-pub use dump::Outcome;
+pub use rules::Outcome;
 pub use service::read;
 pub use service::write;
-pub use table::Class;
-pub use table::Need;
-pub use table::ObjectType;
-pub use table::Row;
-pub use table::Sequence;
-pub use table::Sort;

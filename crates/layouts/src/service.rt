@@ -1,9 +1,9 @@
 use crate::accept::Candidate;
 use crate::accept::tried;
-use crate::dump::Outcome;
-use crate::dump::read_into;
 use elements::Fault;
 use elements::put_part;
+use reader::read_into;
+use rules::Outcome;
 ghost use Prim.Native.Nat.{_≤_};
 ghost use mathlib.Core.Path.{_≡_};
 ghost use lib.ListN.{length, take};

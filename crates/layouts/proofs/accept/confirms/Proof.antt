@@ -1,5 +1,5 @@
 use Rattle.layouts.proofs.ServiceLaws.{read-long}
-use Rattle.layouts.proofs.StageLaws.{count-take}
+use Rattle.elements.specs.Lists.{count-take}
 use Rattle.layouts.proofs.AcceptLaws.{confirms-not, confirms-by}
 use borrow.Author.Needs.{needs}
 use Rattle.layouts.proofs.accept.confirms.Statement.{statement}

@@ -1,0 +1,7 @@
+pub mod SortLaws
+pub mod ObjectLaws
+pub mod IndexLaws
+pub mod RowLaws
+pub mod ListLaws
+pub mod ServiceLaws
+pub mod FieldLaws

@@ -1,0 +1,7 @@
+pub mod Links
+pub mod Demand3
+pub mod Rising
+pub mod Finding
+pub mod FindingLaws
+pub mod Serving
+pub mod Agreement

@@ -1,0 +1,284 @@
+-- The stages of reading, one after the other.
+use Prim.Native.Nat.{ℕ, _+_, _-_, _*_, _<_, _≤_}
+use mathlib.Core.Path.{_≡_, refl, sym, ap, _∙_}
+use mathlib.Core.List.{List, [], _∷_, _++_, append-assoc}
+use native.Mathlib.Omega.{arith}
+use lib.ListN.{length, take, drop, length-append}
+use lib.Seq.{slice, take-at, drop-at, length-take-le}
+use borrow.Author.Tests.{lt-ltb, le-ltb, le-leb, lt-leb}
+use Rattle.elements.specs.declared.fault.Fault.{Fault}
+use Rattle.elements.specs.declared.fault.Fault.the-variants.{DumpSize, PathTwice, AuthIdTwice}
+use Rattle.elements.specs.Lists.{Bytes, join}
+use Rattle.elements.specs.Put.{Put}
+use Rattle.elements.specs.PutLaws.{put-put, put-then, put-length, put-fits, put-there, put-upto}
+use Rattle.reader.specs.declared.part.Part.{Part}
+use Rattle.reader.specs.declared.part.Part.the-variants.{Took, Fails}
+use Rattle.reader.specs.declared.part.Many.{Many}
+use Rattle.reader.specs.declared.part.Many.the-variants as many
+use Rattle.reader.specs.declared.scan.Again.{Again}
+use Rattle.reader.specs.declared.scan.Again.the-variants.{Before, Never}
+use Rattle.reader.specs.declared.scan.Clash.{Clash}
+use Rattle.reader.specs.declared.scan.Clash.the-variants.{At, None}
+use Rattle.reader.specs.declared.twelve.Followed.{Followed}
+use Rattle.reader.specs.declared.twelve.Followed.the-variants.{Fine, Wrong}
+use Rattle.reader.specs.declared.frame.Framed.{Framed}
+use Rattle.reader.specs.declared.frame.Framed.the-variants as file
+use Rattle.reader.specs.declared.frame.Chain.{Chain}
+use Rattle.reader.specs.declared.frame.Chain.the-variants.{Sound, Unsound}
+use Rattle.rules.specs.declared.outcome.Outcome.{Outcome}
+use Rattle.rules.specs.declared.outcome.Outcome.the-variants.{Accepted, Refused}
+use Rattle.rules.specs.Reading.{Rec, Res, took, fails}
+use Rattle.rules.specs.Files.{File, files, frames, fine, wrongAt, namesOf, paths, firstAgain, entryPlace, follow, directories, repeated, cia, od, accepted, refused, Answer, onRes, onCheck, frame, readFiles, readParts, readDump}
+use Rattle.rules.specs.Book.{encode}
+use Rattle.rules.specs.Laws.{Laid, size, laid-append}
+use Rattle.rules.specs.FileLaws.{cia-law, od-law}
+use Rattle.rules.specs.DumpLaws.{files-bound, ok-facts}
+use Rattle.rules.specs.WriteLaws.{book-size}
+use Rattle.reader.specs.Did.{Did, did, fell, DidObjects, didObjects, fellObjects}
+use Rattle.reader.specs.Scan.{Lies, Holds, PathsTold, IdsTold, clashOf}
+use Rattle.reader.specs.Frame.{framedAs, Inner, FramesTold}
+use Rattle.reader.specs.Twelve.{FollowTold, followedAs}
+use Rattle.reader.specs.Directories.{DidFiles, didFiles, fellFiles, FilesTold}
+use Rattle.reader.specs.Stages.{Reads, reads, falls, Framing, Opening, Opened, FilesRead, EntriesRead, PartsRead}
+use Rattle.reader.proofs.DidLaws.{encode-append, did-same}
+use Rattle.reader.proofs.EntryLaws.{objects-open, objects-few, objects-same, objects-kept}
+use Rattle.reader.proofs.DirectoriesLaws.{put-lies}
+
+-- records laid out behind others
+lies-behind : (s : List ℕ) {a b : List ℕ} {i end n : ℕ} (cs ds : List Rec) → Lies a i end cs → Put a b end n (encode ds) → n ≤ length a → length s ≤ 32768 → Laid (length s) cs → Laid (length s) ds → Lies b i n (cs ++ ds)
+lies-behind s {a} {b} {i} {end} {n} cs ds l f h m u v =
+    let w = put-lies f (omega arith) l in
+    record {
+      low = omega (arith, l .low, f .at);
+      high = omega (arith, put-length f);
+      are = sym (join i end n b (l .low) (omega (arith, f .at))) ∙ rw (w .are, put-there f h) (sym (encode-append cs ds));
+      size = length s;
+      small = m;
+      laid = laid-append (length s) cs ds u v;
+    }
+
+module _ {s a : List ℕ} {start stop i end : ℕ} {u : List ℕ} {k : ℕ} (op : Opened s start stop a i end u k) where
+  -- what the files left
+  module _ {b v : List ℕ} {x : Many} (d : FilesTold s stop a b u v i end end k x) {q n j : ℕ} (y : x ≡ many.Took q n j) where
+    pub record FilesOpen (fs : List File) (cs : List Rec) : Type 0 where
+      pub ds : List Rec
+      pub ns : List ℕ
+      pub are : directories s (namesOf cs) fs k ≡ took ds ns 0
+      pub put : Put a b end n (encode ds)
+      pub marks : Put u v k j ns
+      pub few : j ≤ 128
+
+    files-open : (fs : List File) (cs : List Rec) → frames s (length s) stop ≡ files fs → Lies a i end cs → FilesOpen fs cs
+    files-open fs cs c l = go q (directories s (namesOf cs) fs k) refl (rw y at (d .is cs fs (length s) l c))
+      where
+        go : (q′ : ℕ) (t : Res) → directories s (namesOf cs) fs k ≡ t → DidFiles a b u v end k t (many.Took q′ n j) → FilesOpen fs cs
+        go _ _ e (didFiles {ds = ds} {ns = ns} f h w) = record { ds = ds; ns = ns; are = e; put = f; marks = h; few = w }
+
+    pub files-marks : j ≤ length v
+    files-marks = let f = files-open (op .frame .fs) (op .cs) (op .frame .chain) (op .is .lies) in omega (arith, f .few, op .is .many, put-length (f .marks))
+
+  -- 12: a path is named twice
+  pub files-twice : {r : Again} {m x : ℕ} → PathsTold a i end r → r ≡ Before m → x ≡ entryPlace s (length s) m stop start → FilesRead s start stop a a i end u k (Refused PathTwice x)
+  unfolding readFiles
+  files-twice {r} {m} {x} t e q = record {
+    is = λ o fs bs cs ms y z c w.
+        let v = t .twice cs m (w .lies) e in
+        rw (v .0, lt-ltb m (length (paths (namesOf cs))) (v .1), y, z, q) (falls refl);
+  }
+
+  -- no path is
+  module _ {r : Again} (t : PathsTold a i end r) (e : r ≡ Never) where
+    never : (o : File) (fs : List File) (bs cs : List Rec) (ms : List ℕ) → Opening s stop a i end u k cs ms →
+        readFiles s o fs bs cs ms ≡ onCheck (follow s (namesOf cs) fs) (λ _. onRes (directories s (namesOf cs) fs (length ms)) (λ ds ns. onCheck (repeated [] 0 (ms ++ ns) (cs ++ ds)) (λ _. accepted (bs ++ (cs ++ ds)))))
+    unfolding readFiles
+    never o fs bs cs ms w = rw (t .never cs (w .lies) e, le-ltb (length (paths (namesOf cs))) (length (paths (namesOf cs))) (omega arith)) refl
+
+    -- but the files do not follow
+    pub files-wrong : {w : Followed} {f : Fault} {p : ℕ} → FollowTold s stop a i end w → w ≡ Wrong f p → FilesRead s start stop a a i end u k (Refused f p)
+    files-wrong {w} {f} {p} g z = record { is = λ o fs bs cs ms _ _ c l. rw (never o fs bs cs ms l, g .is cs fs (length s) (l .lies) c, z) (falls refl) }
+
+    module _ {w : Followed} (g : FollowTold s stop a i end w) (z : w ≡ Fine) where
+      fine-so : (o : File) (fs : List File) (bs cs : List Rec) (ms : List ℕ) → frames s (length s) stop ≡ files fs → Opening s stop a i end u k cs ms →
+          readFiles s o fs bs cs ms ≡ onRes (directories s (namesOf cs) fs k) (λ ds ns. onCheck (repeated [] 0 (ms ++ ns) (cs ++ ds)) (λ _. accepted (bs ++ (cs ++ ds))))
+      fine-so o fs bs cs ms c l =
+          let m : length ms ≡ k = rw (← l .marks) (length-take-le k u (omega (arith, l .few, l .many))) in
+          rw (never o fs bs cs ms l, g .is cs fs (length s) (l .lies) c, z, m) refl
+
+      module _ {b v : List ℕ} {x : Many} (d : FilesTold s stop a b u v i end end k x) where
+        -- a file is refused
+        pub files-fell : {f : Fault} {p : ℕ} → x ≡ many.Fails f p → FilesRead s start stop a b i end u k (Refused f p)
+        files-fell {f} {p} y = record { is = λ o fs bs cs ms _ _ c l. rw (fine-so o fs bs cs ms c l) (go (λ ds ns. onCheck (repeated [] 0 (ms ++ ns) (cs ++ ds)) (λ _. accepted (bs ++ (cs ++ ds)))) (rw y at (d .is cs fs (length s) (l .lies) c))) }
+          where
+            go : {old : List Rec} {t : Res} (h : List Rec → List ℕ → Answer) → DidFiles a b u v end k t (many.Fails f p) → Reads old a b end (onRes t h) (Refused f p)
+            go h (fellFiles q _) = falls q
+
+        -- all are read
+        module _ (bytes : Bytes s) {q n j : ℕ} (y : x ≡ many.Took q n j) where
+          module _ {fs : List File} {cs : List Rec} {ms : List ℕ} (c : frames s (length s) stop ≡ files fs) (l : Opening s stop a i end u k cs ms) (f : FilesOpen d y fs cs) where
+            bounded : (size (f .ds) ≤ 4 * (length s - stop)) × Laid (length s) (f .ds)
+            bounded = files-bound s bytes (op .frame .small) (namesOf cs) fs (length s) stop k (op .frame .high) c (g .is cs fs (length s) (l .lies) c ∙ ap followedAs z) (f .are)
+
+            fits : n ≤ length a
+            fits = omega (arith, f .put .at, book-size (f .ds), bounded .0, l .room, op .frame .high, op .frame .small, op .frame .wide)
+
+            lie : Lies b i n (cs ++ f .ds)
+            lie = lies-behind s cs (f .ds) (l .lies) (f .put) fits (op .frame .small) (l .laid) (bounded .1)
+
+          pub files-hold : Holds b i n
+          files-hold = let f = files-open d y (op .frame .fs) (op .cs) (op .frame .chain) (op .is .lies) in record { rs = op .cs ++ f .ds; lies = lie (op .frame .chain) (op .is) f }
+
+          module _ {p : Clash} (t′ : IdsTold b (take j v) i n p) where
+            checked : (o : File) (fs : List File) (bs cs : List Rec) (ms : List ℕ) (c : frames s (length s) stop ≡ files fs) (l : Opening s stop a i end u k cs ms) (f : FilesOpen d y fs cs) →
+                readFiles s o fs bs cs ms ≡ onCheck (clashOf p) (λ _. accepted (bs ++ (cs ++ f .ds)))
+            checked o fs bs cs ms c l f =
+                let m : take j v ≡ ms ++ f .ns = put-upto (f .marks) (omega (arith, f .few, l .many)) ∙ ap (λ (x : List ℕ). x ++ f .ns) (l .marks) in
+                rw (fine-so o fs bs cs ms c l, f .are, ← m, t′ .is (cs ++ f .ds) (lie c l f)) refl
+
+            pub files-clash : {x′ : ℕ} → p ≡ At x′ → FilesRead s start stop a b i end u k (Refused AuthIdTwice x′)
+            files-clash e′ = record { is = λ o fs bs cs ms _ _ c l. let f = files-open d y fs cs c (l .lies) in rw (checked o fs bs cs ms c l f, e′) (falls (put-length (f .put))) }
+
+            pub files-all : p ≡ None → FilesRead s start stop a b i end u k (Accepted n)
+            files-all e′ = record { is = λ o fs bs cs ms _ _ c l. let f = files-open d y fs cs c (l .lies) in rw (checked o fs bs cs ms c l f, e′, sym (append-assoc bs cs (f .ds))) (reads (f .ds) (f .put) (fits c l f)) }
+
+-- what is read behind what was read
+reads-then : (bs cs : List Rec) {a b c : List ℕ} {o p : ℕ} {g : Answer} {r : Outcome} → Put a b o p (encode cs) → Reads (bs ++ cs) b c p g r → Reads bs a c o g r
+reads-then bs cs f (reads ds p l) = rw (append-assoc bs cs ds) (reads (cs ++ ds) (put-then f p (sym (encode-append cs ds))) (omega (arith, put-length f)))
+reads-then bs cs f (falls e) = falls (e ∙ put-length f)
+
+-- what the lent marks hold once EF.OD is read
+module _ {s a b u v : List ℕ} {start stop i : ℕ} (h : Framing s start stop a) (bytes : Bytes s) (room : i + 3 ≤ 4 * start) (wide : 128 ≤ length u) {w : Many} (d : DidObjects a b u v i start stop 0 (od s stop start) w) where
+  pub entries-fell : {f : Fault} {p : ℕ} → w ≡ many.Fails f p → EntriesRead s start stop a b i (Refused f p)
+  entries-fell {f} {p} z = record { is = λ o fs bs _ _ _. go (λ cs ms. readFiles s o fs bs cs ms) (rw z at d) }
+    where
+      go : {old : List Rec} {t : Res} (k : List Rec → List ℕ → Answer) → DidObjects a b u v i start stop 0 t (many.Fails f p) → Reads old a b i (onRes t k) (Refused f p)
+      go k (fellObjects e _) = falls e
+
+  module _ {n end k : ℕ} (z : w ≡ many.Took n end k) where
+    -- what was read
+    record EntriesOpen : Type 0 where
+      cs : List Rec
+      ms : List ℕ
+      are : od s stop start ≡ took cs ms n
+      put : Put a b i end (encode cs)
+      opening : Opening s stop b i end v k cs ms
+
+    entries-open : EntriesOpen
+    entries-open =
+        let x = objects-open (rw z at d) in
+        let f = ok-facts (od-law s bytes (h .small) stop start (h .low) (h .high)) (x .2) in
+        let r : end ≤ 4 * stop = omega (arith, x .3 .at, book-size (x .0), f .bound, f .low, f .high) in
+        let t : end ≤ length a = omega (arith, h .high, h .small, h .wide) in
+        let e : k ≤ 128 = objects-few d z in
+        record {
+          cs = x .0;
+          ms = x .1;
+          are = x .2;
+          put = x .3;
+          opening = record {
+            lies = record {
+              low = omega (arith, x .3 .at);
+              high = omega (arith, put-length (x .3));
+              are = put-there (x .3) t;
+              size = length s;
+              small = h .small;
+              laid = f .laid;
+            };
+            laid = f .laid;
+            room = r;
+            marks = put-upto (x .4) (omega arith);
+            few = e;
+            many = omega (arith, put-length (x .4));
+          };
+        }
+
+    framing-kept : Framing s start stop b
+    framing-kept = record { low = h .low; high = h .high; small = h .small; wide = omega (arith, h .wide, objects-same d); fs = h .fs; chain = h .chain }
+
+    pub entries-opened : Opened s start stop b i end v k
+    entries-opened = let x = entries-open in record { frame = framing-kept; cs = x .cs; ms = x .ms; is = x .opening }
+
+    pub entries-read : {c : List ℕ} {r : Outcome} → FilesRead s start stop b c i end v k r → EntriesRead s start stop a c i r
+    entries-read {c} {r} t = record {
+      is = λ o fs bs y q e.
+          let x = entries-open in
+          rw (x .are) (reads-then bs (x .cs) (x .put) (t .is o fs bs (x .cs) (x .ms) y q e (x .opening)));
+    }
+
+-- CIAInfo is read
+module _ {s a b : List ℕ} {from to start stop : ℕ} (h : Framing s start stop a) (bytes : Bytes s) (low : 4 ≤ from) (mid : from ≤ to) (high : to + 4 ≤ start) {w : Part} (d : Did a b 0 from to (cia s to from) w) where
+  pub parts-fell : {f : Fault} {p : ℕ} → w ≡ Fails f p → PartsRead s from to start stop a b (Refused f p)
+  unfolding readParts
+  parts-fell {f} {p} z = record { is = λ c o fs x y _ _ _. rw (x, y) (go (λ bs _. onRes (od s (o .stop) (o .start)) (λ cs ms. readFiles s o fs bs cs ms)) (rw z at d)) }
+    where
+      go : {old : List Rec} {t : Res} (k : List Rec → List ℕ → Answer) → Did a b 0 from to t (Fails f p) → Reads old a b 0 (onRes t k) (Refused f p)
+      go k (fell e) = falls e
+
+  module _ {n i : ℕ} (z : w ≡ Took n i) where
+    record InfoOpen : Type 0 where
+      bs : List Rec
+      ms : List ℕ
+      are : cia s to from ≡ took bs ms n
+      put : Put a b 0 i (encode bs)
+
+    info-open : InfoOpen
+    info-open = go (cia s to from) refl (rw z at d)
+      where
+        go : (t : Res) → cia s to from ≡ t → Did a b 0 from to t (Took n i) → InfoOpen
+        go _ e (did {bs = bs} {ms = ms} f _ _ _) = record { bs = bs; ms = ms; are = e; put = f }
+
+    pub info-room : i + 3 ≤ 4 * start
+    info-room =
+        let x = info-open in
+        let f = ok-facts (cia-law s bytes (h .small) to from mid (omega (arith, h .low, h .high))) (x .are) in
+        omega (arith, x .put .at, book-size (x .bs), f .bound, f .low, f .high)
+
+    pub info-framing : Framing s start stop b
+    info-framing = record { low = h .low; high = h .high; small = h .small; wide = omega (arith, h .wide, did-same d); fs = h .fs; chain = h .chain }
+
+    pub parts-read : {c : List ℕ} {r : Outcome} → EntriesRead s start stop b c i r → PartsRead s from to start stop a c r
+    unfolding readParts
+    parts-read {c} {r} t = record {
+      is = λ c o fs x y u v e.
+          let q = info-open in
+          let z′ : od s (o .stop) (o .start) ≡ od s stop start = rw (u, v) refl in
+          rw (x, y, q .are, z′) (reads-then [] (q .bs) (q .put) (t .is o fs (q .bs) u v e));
+    }
+
+-- where a file lies
+module _ {s : List ℕ} {at : ℕ} {r : Framed} (i : Inner s at r) {n a e : ℕ} (z : r ≡ file.File n a e) where
+  pub inner-low : at + 4 ≤ a
+  inner-low = i .is n a e z .0
+
+  pub inner-mid : a ≤ e
+  inner-mid = i .is n a e z .2
+
+  pub inner-high : e ≤ length s
+  inner-high = i .is n a e z .3
+
+-- the frames
+module _ (s : List ℕ) where
+  pub into-long : {a : List ℕ} → 32768 < length s → Reads [] a a 0 (readDump s) (Refused DumpSize 0)
+  unfolding readDump
+  into-long h = rw (lt-leb (length s) 32768 h) (falls refl)
+
+  module _ (small : length s ≤ 32768) {x : Framed} (e : frame s 1 0 ≡ framedAs 0 x) where
+    pub into-first : {a : List ℕ} {f : Fault} {p : ℕ} → x ≡ file.Broken f p → Reads [] a a 0 (readDump s) (Refused f p)
+    unfolding readDump
+    into-first z = rw (le-leb (length s) 32768 small, e, z) (falls refl)
+
+    module _ {n from to : ℕ} (z : x ≡ file.File n from to) {y : Framed} (d : frame s 2 to ≡ framedAs to y) where
+      pub into-second : {a : List ℕ} {f : Fault} {p : ℕ} → y ≡ file.Broken f p → Reads [] a a 0 (readDump s) (Refused f p)
+      unfolding readDump
+      into-second v = rw (le-leb (length s) 32768 small, e, z, d, v) (falls refl)
+
+      module _ {m start stop : ℕ} (v : y ≡ file.File m start stop) {g : Chain} (t : FramesTold s stop g) where
+        pub into-chain : {a : List ℕ} {f : Fault} {p : ℕ} → g ≡ Unsound f p → Reads [] a a 0 (readDump s) (Refused f p)
+        unfolding readDump
+        into-chain {a} {f} {p} u = rw (le-leb (length s) 32768 small, e, z, d, v, t .unsound f p u) (falls refl)
+
+        pub into-parts : {a b : List ℕ} {r : Outcome} → g ≡ Sound → PartsRead s from to start stop a b r → Reads [] a b 0 (readDump s) r
+        unfolding readDump
+        into-parts u q = let w = t .sound u in rw (le-leb (length s) 32768 small, e, z, d, v, w .1) (q .is _ _ (w .0) refl refl refl refl (w .1))
+
+        pub into-framing : {b : List ℕ} → g ≡ Sound → 131072 ≤ length b → Inner s to y → Framing s start stop b
+        into-framing u l i = let w = t .sound u in record { low = inner-mid i v; high = inner-high i v; small = small; wide = l; fs = w .0; chain = w .1 }

@@ -1,0 +1,6 @@
+pub mod Did
+pub mod Scan
+pub mod Frame
+pub mod Twelve
+pub mod Directories
+pub mod Stages

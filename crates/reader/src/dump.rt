@@ -1,0 +1,117 @@
+use crate::directories::directories;
+use crate::entry::object_directory;
+use crate::frame::Chain;
+use crate::frame::Framed;
+use crate::frame::frame;
+use crate::frame::frames;
+use crate::info::info;
+use crate::part::Many;
+use crate::part::Part;
+use crate::place::entry_place;
+use crate::scan::Again;
+use crate::scan::Clash;
+use crate::scan::id_twice;
+use crate::scan::path_twice;
+use crate::twelve::Followed;
+use crate::twelve::follow;
+use elements::Fault;
+use rules::Outcome;
+ghost use mathlib.Core.Path.{_≡_};
+ghost use mathlib.Core.List.{[]};
+ghost use Prim.Native.Nat.{_+_, _*_, _≤_};
+ghost use lib.ListN.{length};
+ghost use Rattle.rules.specs.Files.{readDump};
+ghost use Rattle.reader.specs.Stages.{Reads, Framing, Opened, FilesRead, EntriesRead, PartsRead};
+
+// 12, the files in turn, 13: EF.OD from `start` to `stop` has the records that the book has from i to end, with k objects, whose places are in marks.
+fn read_files(
+    s: &[u8],
+    start: usize,
+    stop: usize,
+    out: &mut [u8],
+    i: usize,
+    end: usize,
+    marks: &mut [u32],
+    k: usize,
+) -> Outcome
+    requires { ⌜ Opened (now s) start stop (now out) i end (now marks) k ⌝ }
+    ensures { λ r. ⌜ FilesRead (now (s .entry)) start stop (now (out .entry)) (now (out .exit)) i end (now (marks .entry)) k r ⌝ }
+{
+    match path_twice(out, i, end) {
+        Again::Before(m) => Outcome::Refused(Fault::PathTwice, entry_place(s, m, stop, start)),
+        Again::Never => match follow(s, stop, out, i, end) {
+            Followed::Wrong(f, p) => Outcome::Refused(f, p),
+            Followed::Fine => match directories(s, stop, i, end, k, out, end, marks) {
+                Many::Fails(f, p) => Outcome::Refused(f, p),
+                Many::Took(_, n, j) => match id_twice(out, i, n, &marks[..j]) {
+                    Clash::At(p) => Outcome::Refused(Fault::AuthIdTwice, p),
+                    Clash::None => Outcome::Accepted(n),
+                },
+            },
+        },
+    }
+}
+
+// EF.OD from `start` to `stop`, its records from i on; then the files.
+fn read_entries(
+    s: &[u8],
+    start: usize,
+    stop: usize,
+    out: &mut [u8],
+    i: usize,
+    marks: &mut [u32],
+) -> Outcome
+    requires { ⌜ Framing (now s) start stop (now out) × (i + 3 ≤ 4 * start) × (128 ≤ length (now marks)) ⌝ }
+    ensures { λ r. ⌜ EntriesRead (now (s .entry)) start stop (now (out .entry)) (now (out .exit)) i r ⌝ }
+{
+    match object_directory(s, stop, start, out, i, marks) {
+        Many::Fails(f, p) => Outcome::Refused(f, p),
+        Many::Took(_, end, k) => read_files(s, start, stop, out, i, end, marks, k),
+    }
+}
+
+fn with_marks(s: &[u8], start: usize, stop: usize, out: &mut [u8], i: usize) -> Outcome
+    requires { ⌜ Framing (now s) start stop (now out) × (i + 3 ≤ 4 * start) ⌝ }
+    ensures { λ r. ⌜ EntriesRead (now (s .entry)) start stop (now (out .entry)) (now (out .exit)) i r ⌝ }
+{
+    let mut marks = [0u32; 128];
+    read_entries(s, start, stop, out, i, &mut marks)
+}
+
+// CIAInfo from `from` to `to`; then EF.OD and the files.
+fn read_parts(
+    s: &[u8],
+    from: usize,
+    to: usize,
+    start: usize,
+    stop: usize,
+    out: &mut [u8],
+) -> Outcome
+    requires { ⌜ Framing (now s) start stop (now out) × (4 ≤ from) × (from ≤ to) × (to + 4 ≤ start) ⌝ }
+    ensures { λ r. ⌜ PartsRead (now (s .entry)) from to start stop (now (out .entry)) (now (out .exit)) r ⌝ }
+{
+    match info(s, to, from, out, 0) {
+        Part::Fails(f, p) => Outcome::Refused(f, p),
+        Part::Took(_, i) => with_marks(s, start, stop, out, i),
+    }
+}
+
+// A dump into a book: "1; all frames; CIAInfo; EF.OD; 12; files in turn; 13".
+pub fn read_into(s: &[u8], out: &mut [u8]) -> Outcome
+    requires { ⌜ 131072 ≤ length (now out) ⌝ }
+    ensures { λ r. ⌜ Reads [] (now (out .entry)) (now (out .exit)) 0 (readDump (now (s .entry))) r ⌝ }
+{
+    if 32768 < s.len() {
+        return Outcome::Refused(Fault::DumpSize, 0);
+    }
+    match frame(s, 1, 0) {
+        Framed::Broken(f, p) => Outcome::Refused(f, p),
+        Framed::File(_, from, to) => match frame(s, 2, to) {
+            Framed::Broken(f, p) => Outcome::Refused(f, p),
+            Framed::File(_, start, stop) => match frames(s, stop) {
+                Chain::Unsound(f, p) => Outcome::Refused(f, p),
+                Chain::Sound => read_parts(s, from, to, start, stop, out),
+            },
+        },
+    }
+}

@@ -1,0 +1,270 @@
+-- "House records" and "Refusals and their places" of document 01: files, their frames, and the whole dump.
+use Prim.Native.Nat.{ℕ, zero, suc, _+_, _-_, _*_}
+use mathlib.Core.List.{List, [], _∷_, _++_, map}
+use mathlib.Core.Bool.{Bool, true, false, _||_, _&&_, not}
+use lib.ListN.{length, getD, drop}
+use lib.Seq.{slice}
+use lib.Dec.{ltb, leb, eqb}
+use Rattle.elements.specs.declared.fault.Fault.{Fault}
+use Rattle.elements.specs.declared.fault.Fault.the-variants.{DumpSize, RecordBroken, RecordMissing, RecordKind, FileLength, PathLength, FillDiffers, PathTwice, FileDiffers, FileMissing, FileExtra, AuthIdTwice, BadSize, NotDue, Missing}
+use Rattle.elements.specs.declared.answer.Head.{Head}
+use Rattle.elements.specs.declared.answer.Head.the-variants.{At, No}
+use Rattle.elements.specs.Choice.{choose}
+use Rattle.elements.specs.Header.{header}
+use Rattle.elements.specs.Put.{le16}
+use Rattle.rules.specs.declared.table.Need.the-variants.{Required}
+use Rattle.rules.specs.Reading.{Rec, rec, Res, took, fails, also, andThen, _then_, Reader, Body}
+use Rattle.rules.specs.Parts.{component, components, ended, element, surplus, inside, rest, sealed, repeat, toEnd, counted, keptOut}
+use Rattle.rules.specs.Tables.{ciaRows, ownIdRow}
+use Rattle.rules.specs.Objects.{object}
+
+-- a path entry of EF.OD: its tag, and the path that it names
+pub record Name : Type 0 where
+  pub tag : ℕ
+  pub path : List ℕ
+
+-- a file of the dump: its frame's place, where its path starts, where the file starts and ends
+pub record File : Type 0 where
+  pub place : ℕ
+  pub named : ℕ
+  pub start : ℕ
+  pub stop : ℕ
+
+pub data Framed : Type 0 where
+  framed : File → Framed
+  broken : Fault → ℕ → Framed
+
+pub data Files : Type 0 where
+  files : List File → Files
+  brokenAt : Fault → ℕ → Files
+
+pub data Check : Type 0 where
+  fine : Check
+  wrongAt : Fault → ℕ → Check
+
+pub data Answer : Type 0 where
+  accepted : List Rec → Answer
+  refused : Fault → ℕ → Answer
+
+-- an entry that names a path stands in the book as 0110, tag, 00, path
+abbrev pub nameOf : List ℕ → List Name → List Name
+nameOf [] ns = ns
+nameOf (t ∷ []) ns = ns
+nameOf (t ∷ f ∷ p) ns = choose (eqb f 0) (λ _. record { tag = t; path = p } ∷ ns) (λ _. ns)
+
+unfoldable pub namesOf : List Rec → List Name
+namesOf [] = []
+namesOf (r ∷ rs) = choose (eqb (r .kind) 0x0110) (λ _. nameOf (r .pay) (namesOf rs)) (λ _. namesOf rs)
+
+abbrev pub equal : List ℕ → List ℕ → Bool
+equal [] [] = true
+equal [] (y ∷ m) = false
+equal (x ∷ l) [] = false
+equal (x ∷ l) (y ∷ m) = eqb x y && equal l m
+
+module _ (s : List ℕ) where
+  -- "a first byte 00 or FF where an element would start begins the fill"
+  abbrev pub toFill : ℕ → ℕ → Bool
+  toFill end at = ltb at end && not (eqb (getD s at 0) 0 || eqb (getD s at 0) 0xff)
+
+  unfoldable pub filled : ℕ → ℕ → ℕ → ℕ → Res
+  filled b zero end at = took [] [] at
+  filled b (suc g) end at = choose (eqb (getD s at 0) b) (λ _. filled b g end (at + 1)) (λ _. fails FillDiffers at)
+
+  -- "all bytes to the end must equal it"; "fill byte, 2-byte count"
+  unfoldable pub fill : ℕ → Reader
+  fill kind end at =
+      choose (ltb at end)
+      (λ _. andThen (filled (getD s at 0) (end - at) end at) (λ n. took (rec kind (getD s at 0 ∷ le16 (end - at)) ∷ []) [] n))
+      (λ _. took [] [] at)
+
+  -- "CIAInfo, SEQUENCE 30: .. rest 0106"
+  unfoldable pub ciaBody : Body
+  ciaBody = inside (components s ciaRows then rest s 0x0106 (keptOut ciaRows))
+
+  -- "CIAInfo's file has just one element: none, even before fill, is 5 at the file's end, before 11"
+  unfoldable pub ciaElement : Reader
+  ciaElement end at = choose (toFill end at) (λ _. component s 0x30 Required ciaBody end at) (λ _. fails Missing end)
+
+  -- "a second is 3"; "CIAInfo's fill, 0108"
+  unfoldable pub ciaFill : Reader
+  ciaFill end at = choose (toFill end at) (λ _. surplus at (header s at end)) (λ _. fill 0x0108 end at)
+
+  unfoldable pub cia : Reader
+  cia = ciaElement then ciaFill
+
+  -- objects up to the end of a list, or up to the fill of a file, after k objects
+  unfoldable pub objects : (ℕ → ℕ → Bool) → ℕ → ℕ → Reader
+  objects more entry k end at = repeat more (object s entry) (end - at) k end at
+
+  -- "An EF.OD path holds one OCTET STRING of 1 to 64 bytes and nothing more (house)"; "0110 with entry tag, then 00 and path bytes"
+  unfoldable pub namedPath : ℕ → Body
+  namedPath entry at a e =
+      choose (leb 1 (e - a) && leb (e - a) 64) (λ _. took (rec 0x0110 (entry ∷ 0 ∷ slice a e s) ∷ []) [] e) (λ _. fails BadSize at)
+
+  -- "Inside is a Path 30 or objects A0"; "or 01 and its objects follow"
+  unfoldable pub entryInside : ℕ → ℕ → ℕ → Body
+  entryInside entry k t at a e =
+      choose (eqb t 0x30) (λ _. (component s 0x04 Required (namedPath entry) then ended s) e a)
+      (λ _. choose (eqb t 0xa0) (λ _. also (rec 0x0110 (entry ∷ 1 ∷ []) ∷ []) [] (objects toEnd entry k e a))
+      (λ _. fails NotDue at))
+
+  -- "entries A0 to A8 .. Any other context-specific tag: 0110 with first tag byte, 02, the sealed element"
+  unfoldable pub entryBody : ℕ → ℕ → Body
+  entryBody k t at a e =
+      choose (leb 0xa0 t && leb t 0xa8) (λ _. (element s (entryInside t k) then ended s) e a)
+      (λ _. choose (leb 0x80 t && leb t 0xbf) (λ _. sealed s 0x0110 (t ∷ 2 ∷ []) t at a e)
+      (λ _. fails NotDue at))
+
+  -- "EF.OD: entries .. Then fill, 0107"
+  unfoldable pub od : Reader
+  od = (λ end at. repeat toFill (λ k. element s (entryBody k)) (end - at) 0 end at) then fill 0x0107
+
+  -- "for each path entry 0118, its objects, its fill"
+  unfoldable pub directory : ℕ → ℕ → Reader
+  directory entry k = (λ end at. also (rec 0x0118 [] ∷ []) [] (objects toFill entry k end at)) then fill 0x0107
+
+  abbrev pub two : ℕ → ℕ
+  two at = getD s at 0 + 256 * getD s (at + 1) 0
+
+  -- the record at a place, of the kind that is due, whole; `inner` takes what stands in it
+  unfoldable pub frameOf : ℕ → (ℕ → ℕ → Framed) → ℕ → Framed
+  frameOf kind inner at =
+      choose (leb (length s) at) (λ _. broken RecordMissing at)
+      (λ _. choose (ltb (length s) (at + 4)) (λ _. broken RecordBroken at)
+      (λ _. choose (ltb (two at) 2) (λ _. broken RecordBroken at)
+      (λ _. choose (ltb (length s) (at + 2 + two at)) (λ _. broken RecordBroken at)
+      (λ _. choose (eqb (two (at + 2)) kind) (λ _. inner (at + 4) (at + 2 + two at))
+      (λ _. broken RecordKind at)))))
+
+  -- "A file is at most 16,383 bytes": from `start` to `stop`, behind n bytes of path length and path
+  unfoldable pub fileIn : ℕ → ℕ → ℕ → ℕ → Framed
+  fileIn at n start stop =
+      choose (ltb stop (start + n)) (λ _. broken PathLength at)
+      (λ _. choose (ltb 16383 (stop - (start + n))) (λ _. broken FileLength at)
+      (λ _. framed (record { place = at; named = start + 1; start = start + n; stop = stop })))
+
+  unfoldable pub frame : ℕ → ℕ → Framed
+  frame kind at = frameOf kind (λ a e. fileIn at 0 a e) at
+
+  -- "one byte of path length 1 to 64, path, directory file"
+  unfoldable pub namedFile : ℕ → ℕ → ℕ → Framed
+  namedFile at a e =
+      choose (leb e a) (λ _. broken PathLength at)
+      (λ _. choose (ltb (getD s a 0) 1) (λ _. broken PathLength at)
+      (λ _. choose (ltb 64 (getD s a 0)) (λ _. broken PathLength at)
+      (λ _. fileIn at (1 + getD s a 0) a e)))
+
+  unfoldable pub namedFrame : ℕ → Framed
+  namedFrame at = frameOf 3 (namedFile at) at
+
+  abbrev pub consFile : File → Files → Files
+  consFile f (files fs) = files (f ∷ fs)
+  consFile f (brokenAt x p) = brokenAt x p
+
+  abbrev pub moreFiles : Framed → (ℕ → Files) → Files
+  moreFiles (framed f) k = consFile f (k (f .stop))
+  moreFiles (broken x p) k = brokenAt x p
+
+  -- "then records 0003", to the dump's end
+  unfoldable pub frames : ℕ → ℕ → Files
+  frames zero at = choose (ltb at (length s)) (λ _. brokenAt RecordBroken at) (λ _. files [])
+  frames (suc g) at = choose (ltb at (length s)) (λ _. moreFiles (namedFrame at) (λ n. frames g n)) (λ _. files [])
+
+  abbrev pub pathOf : File → List ℕ
+  pathOf f = slice (f .named) (f .start) s
+
+  -- the place of the path entry after m others, from a place of EF.OD on
+  abbrev pub isPath : Head → Bool
+  isPath (No f p) = false
+  isPath (At t a e) = eqb t 0x30
+
+  abbrev pub isNaming : Head → Bool
+  isNaming (No f p) = false
+  isNaming (At t a e) = leb 0xa0 t && leb t 0xa8 && isPath (header s a e)
+
+  abbrev pub endOf : ℕ → Head → ℕ
+  endOf at (No f p) = at
+  endOf at (At t a e) = e
+
+  unfoldable pub entryPlace : ℕ → ℕ → ℕ → ℕ → ℕ
+  entryPlace zero m end at = at
+  entryPlace (suc g) m end at =
+      choose (ltb at end)
+      (λ _. choose (isNaming (header s at end))
+      (λ _. choose (eqb m 0) (λ _. at) (λ _. entryPlace g (m - 1) end (endOf at (header s at end))))
+      (λ _. entryPlace g m end (endOf at (header s at end))))
+      (λ _. at)
+
+  -- "or the files do not follow it": "first file that differs, dump's end if one lacks, first extra"
+  unfoldable pub follow : List Name → List File → Check
+  follow [] [] = fine
+  follow [] (f ∷ fs) = wrongAt FileExtra (f .place)
+  follow (n ∷ ns) [] = wrongAt FileMissing (length s)
+  follow (n ∷ ns) (f ∷ fs) = choose (equal (n .path) (pathOf f)) (λ _. follow ns fs) (λ _. wrongAt FileDiffers (f .place))
+
+  -- the files in turn, after k objects
+  unfoldable pub directories : List Name → List File → ℕ → Res
+  directories [] fs k = took [] [] 0
+  directories (n ∷ ns) [] k = took [] [] 0
+  directories (n ∷ ns) (f ∷ fs) k = counted (directory (n .tag) k (f .stop) (f .start)) (λ c _. directories ns fs (k + c))
+
+-- one of these is equal to it
+abbrev pub met : List ℕ → List (List ℕ) → Bool
+met x [] = false
+met x (y ∷ ys) = equal x y || met x ys
+
+-- the paths that entries name, in order
+abbrev pub paths : List Name → List (List ℕ)
+paths ns = map (λ (n : Name). n .path) ns
+
+-- "12 paths: EF.OD names a path twice": how many path entries come before the first that names a path once more; all, if none does
+unfoldable pub firstAgain : List (List ℕ) → List (List ℕ) → ℕ
+firstAgain before [] = 0
+firstAgain before (p ∷ ps) = choose (met p before) (λ _. 0) (λ _. suc (firstAgain (p ∷ before) ps))
+
+-- "13 twice: two authentication objects with equal own authId; place is the first object that repeats one": over the records, with the places of their objects
+unfoldable pub repeated : List (List ℕ) → ℕ → List ℕ → List Rec → Check
+repeated ids place ps [] = fine
+repeated ids place ps (r ∷ rs) =
+    choose (eqb (r .kind) 0x0120) (λ _. repeated ids (getD ps 0 0) (drop 1 ps) rs)
+    (λ _. choose (eqb (r .kind) (ownIdRow .kind))
+    (λ _. choose (met (r .pay) ids) (λ _. wrongAt AuthIdTwice place) (λ _. repeated (r .pay ∷ ids) place ps rs))
+    (λ _. repeated ids place ps rs))
+
+-- what to do with what a stage answered
+abbrev pub onFramed : Framed → (File → Answer) → Answer
+onFramed (framed f) k = k f
+onFramed (broken x p) k = refused x p
+
+abbrev pub onFiles : Files → (List File → Answer) → Answer
+onFiles (files fs) k = k fs
+onFiles (brokenAt x p) k = refused x p
+
+abbrev pub onRes : Res → (List Rec → List ℕ → Answer) → Answer
+onRes (took bs ms n) k = k bs ms
+onRes (fails f p) k = refused f p
+
+abbrev pub onCheck : Check → (Unit {0} → Answer) → Answer
+onCheck fine k = k tt
+onCheck (wrongAt x p) k = refused x p
+
+module _ (s : List ℕ) where
+  -- 12, the files in turn, 13: after CIAInfo's records bs and EF.OD's cs with its objects' places
+  unfoldable pub readFiles : File → List File → List Rec → List Rec → List ℕ → Answer
+  readFiles o fs bs cs ms =
+      choose (ltb (firstAgain [] (paths (namesOf cs))) (length (paths (namesOf cs))))
+      (λ _. refused PathTwice (entryPlace s (length s) (firstAgain [] (paths (namesOf cs))) (o .stop) (o .start)))
+      (λ _. onCheck (follow s (namesOf cs) fs) (λ _.
+      onRes (directories s (namesOf cs) fs (length ms)) (λ ds ns.
+      onCheck (repeated [] 0 (ms ++ ns) (cs ++ ds)) (λ _. accepted (bs ++ (cs ++ ds))))))
+
+  unfoldable pub readParts : File → File → List File → Answer
+  readParts c o fs = onRes (cia s (c .stop) (c .start)) (λ bs _. onRes (od s (o .stop) (o .start)) (λ cs ms. readFiles o fs bs cs ms))
+
+  -- "Order: 1; all frames; CIAInfo; EF.OD; 12; files in turn; 13"
+  unfoldable pub readDump : Answer
+  readDump =
+      choose (leb (length s) 32768)
+      (λ _. onFramed (frame s 1 0) (λ c. onFramed (frame s 2 (c .stop)) (λ o. onFiles (frames s (length s) (o .stop)) (λ fs. readParts c o fs))))
+      (λ _. refused DumpSize 0)

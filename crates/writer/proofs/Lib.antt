@@ -1,0 +1,9 @@
+pub mod MadeLaws
+pub mod ManyLaws
+pub mod LeafLaws
+pub mod MakeConditionLaws
+pub mod MakeCommonLaws
+pub mod MakeKindLaws
+pub mod MakeObjectLaws
+pub mod MakeEntryLaws
+pub mod RenderLaws

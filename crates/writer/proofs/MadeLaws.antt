@@ -1,0 +1,304 @@
+-- How what is made is put together.
+use Prim.Native.Nat.{ℕ, zero, suc, _+_, _-_, _*_, _<_, _≤_}
+use mathlib.Core.Path.{_≡_, refl, sym, ap, _∙_}
+use mathlib.Core.Bool.{Bool, true, false}
+use mathlib.Core.List.{List, [], _∷_, _++_, append-assoc, append-nil}
+use native.Mathlib.Omega.{arith}
+use lib.ListN.{length, getD, take, drop, set, length-append, length-drop, length-set, take-append-drop, List·getD-append}
+use lib.Seq.{slice, sets, take-at, drop-at, take-take, drop-drop, take-suc, slice-cons, slice-empty, set-append-left, set-at, getD-take, length-take-le, take-append-le, sets-eq, drop-append-le}
+use lib.Dec.{ltb, eqb}
+use borrow.Author.Tests.{lt-ltb, le-ltb}
+use Rattle.elements.specs.ChoiceLaws.{by-less}
+use Rattle.rules.specs.BookLaws.{from-few}
+use Rattle.elements.specs.Length.{shortest, wrap}
+use Rattle.elements.specs.Lists.{join}
+use Rattle.elements.specs.Put.{Put}
+use Rattle.elements.specs.PutLaws.{put-none, put-put, put-then, put-length, put-fits, put-there}
+use Rattle.writer.specs.declared.made.Made.{Made}
+use Rattle.writer.specs.declared.made.Made.the-variants.{Took, Long}
+use Rattle.rules.specs.Reading.{Rec, rec}
+use Rattle.rules.specs.Files.{two}
+use Rattle.rules.specs.Render.{Rendered, gives, Renderer, _next_, within, when, from}
+use Rattle.rules.specs.Book.{recordsFrom, Ends, nextIs}
+use Rattle.writer.specs.Making.{Walk, there, onto, Steps, Makes, makes, breaks, Moved, Wraps, wraps, over, Closed, Onward}
+
+-- a splice that fits is a put
+spliced : (a d x : List ℕ) (o p : ℕ) → p ≡ o + length x → p ≤ length a → d ≡ take o a ++ x ++ drop p a → Put a d o p x
+spliced a d x o p e h q = record { at = e; to = q ∙ sym (rw (← e) at (sets-eq x a o (omega arith))) }
+
+-- moving, a place at a time, from the end
+moved-none : (c : List ℕ) (to by : ℕ) → to + by ≤ length c → Moved c c to to by
+moved-none c to by h = record { is = rw (slice-empty to c, append-nil (take (to + by) c)) (sym (take-append-drop (to + by) c)) }
+
+-- or not at all
+pub moved-same : (c : List ℕ) (from to by : ℕ) → by ≡ 0 → from ≤ to → to + by ≤ length c → Moved c c from to by
+moved-same c from to by e h l =
+    let a : from + by ≡ from = omega arith in
+    let b : to + by ≡ to = omega arith in
+    record { is = rw (a, b) (sym (rw (join 0 from to c (omega arith) h) (take-append-drop to c))) }
+
+moved-step : (c x : List ℕ) (to by j y : ℕ) → Moved c x (suc j) to by → suc j ≤ to → to + by ≤ length c → y ≡ getD x j 0 → Moved c (set x (j + by) y) j to by
+moved-step c x to by j y m h l q =
+    let P = take (j + by) c in
+    let S = slice (suc j) to c in
+    let D = drop (to + by) c in
+    let z = getD c (j + by) 0 in
+    let w : suc j + by ≡ suc (j + by) = omega arith in
+    let a : x ≡ P ++ (z ∷ []) ++ S ++ D = m .is ∙ rw (w, take-suc c (j + by) 0 (omega arith)) refl in
+    let e : x ≡ P ++ (z ∷ (S ++ D)) = a ∙ rw (append-assoc P (z ∷ []) S, append-assoc P (z ∷ S) D) refl in
+    let n : length P ≡ j + by = length-take-le (j + by) c (omega arith) in
+    let b : x ≡ take (suc (j + by)) c ++ (S ++ D) = m .is ∙ rw (w) (append-assoc (take (suc (j + by)) c) S D) in
+    let k : length (take (suc (j + by)) c) ≡ suc (j + by) = length-take-le (suc (j + by)) c (omega arith) in
+    let g : y ≡ getD c j 0 = q ∙ rw b (List·getD-append (take (suc (j + by)) c) (S ++ D) 0 j (omega arith) ∙ getD-take (suc (j + by)) c j 0 (omega arith)) in
+    record { is = rw e (set-at P z (S ++ D) y (j + by) n ∙ rw (slice-cons j to c 0 h (omega arith), g) (sym (append-assoc P (getD c j 0 ∷ S) D))) }
+
+-- what stands from k on has moved
+pub record Shifting (c x : List ℕ) (from to by k : ℕ) : Type 0 where
+  pub is : Moved c x k to by
+  pub low : from ≤ k
+  pub high : k ≤ to
+  pub same : length x ≡ length c
+
+pub shifting-start : (c : List ℕ) (from to by : ℕ) → from ≤ to → to + by ≤ length c → Shifting c c from to by to
+shifting-start c from to by h l = record { is = moved-none c to by l; low = h; high = omega arith; same = refl }
+
+module _ {c x : List ℕ} {from to by k : ℕ} (m : Shifting c x from to by k) where
+  pub shifting-more : {j y : ℕ} → from < k → to + by ≤ length c → j ≡ k - 1 → y ≡ getD x j 0 → Shifting c (set x (j + by) y) from to by j
+  shifting-more {j} {y} z l e q =
+      let s : k ≡ suc j = omega arith in
+      record { is = moved-step c x to by j y (rw s at (m .is)) (omega (arith, m .high)) l q; low = omega arith; high = omega (arith, m .high); same = length-set x (j + by) y ∙ m .same }
+
+  pub shifting-done : k ≤ from → Moved c x from to by
+  shifting-done h = let s : k ≡ from = omega (arith, m .low) in rw s at (m .is)
+
+-- a put leaves what is before it and behind it
+before-put : {a c : List ℕ} {o q : ℕ} {x : List ℕ} (k : ℕ) → Put a c o q x → q ≤ length a → k ≤ o → take k c ≡ take k a
+before-put {a} {c} {o} {q} {x} k f l h =
+    let n : length (take o a) ≡ o = length-take-le o a (omega (arith, f .at)) in
+    rw (put-fits f l, append-assoc (take o a) x (drop q a)) (take-append-le k (take o a) (x ++ drop q a) (omega arith) ∙ take-take k o a h)
+
+behind-put : {a c : List ℕ} {o q : ℕ} {x : List ℕ} (k : ℕ) → Put a c o q x → q ≤ length a → drop (q + k) c ≡ drop (q + k) a
+behind-put {a} {c} {o} {q} {x} k f l =
+    let n : length (take o a ++ x) ≡ q = omega (arith, length-append (take o a) x, length-take-le o a (omega (arith, f .at)), f .at) in
+    let e : drop q c ≡ drop q a = rw (put-fits f l) (drop-at (take o a ++ x) (drop q a) q n) in
+    sym (drop-drop k q c) ∙ rw e (drop-drop k q a)
+
+-- the header in front of contents
+pub closed-up : {a c c′ d x : List ℕ} {o q p : ℕ} (k by : ℕ) (e : List ℕ) → Put a c (o + k) q x → q ≤ length a → q + by ≤ length a → k + by ≡ length e → Moved c c′ (o + k) q by → Put c′ d o p e → Put a d o (q + by) (e ++ x)
+closed-up {a} {c} {c′} {d} {x} {o} {q} {p} z by e f l m n v g =
+    let lc : length c ≡ length a = put-length f in
+    let lo : o + z + by ≤ length c = omega (arith, f .at) in
+    let T = take (o + z + by) c in
+    let S = slice (o + z) q c in
+    let D = drop (q + by) c in
+    let lt : length T ≡ o + z + by = length-take-le (o + z + by) c lo in
+    let lp : p ≡ o + z + by = omega (arith, g .at) in
+    let w : c′ ≡ T ++ (S ++ D) = v .is ∙ append-assoc T S D in
+    let lk : p ≤ length c′ = rw w (omega (arith, length-append T (S ++ D))) in
+    let A : take o c′ ≡ take o a = rw w (take-append-le o T (S ++ D) (omega arith) ∙ take-take o (o + z + by) c (omega arith) ∙ before-put o f l (omega arith)) in
+    let B : drop p c′ ≡ x ++ drop (q + by) a = rw (w, lp) (drop-at T (S ++ D) (o + z + by) lt ∙ rw (put-there f l, behind-put by f l) refl) in
+    let zd : d ≡ take o a ++ e ++ (x ++ drop (q + by) a) = put-fits g lk ∙ rw (A, B) refl in
+    spliced a d (e ++ x) o (q + by) (omega (arith, length-append e x, f .at)) m (zd ∙ sym (append-assoc (take o a ++ e) x (drop (q + by) a)) ∙ rw (append-assoc (take o a) e x) refl)
+
+-- the size of a header
+pub size-short : (n : ℕ) → n < 128 → 2 ≡ 1 + length (shortest n)
+unfolding shortest
+size-short n h = rw (lt-ltb n 128 h) refl
+
+pub size-middle : (n : ℕ) → 128 ≤ n → n < 256 → 3 ≡ 1 + length (shortest n)
+unfolding shortest
+size-middle n h l = rw (le-ltb n 128 h, lt-ltb n 256 l) refl
+
+pub size-long : (n : ℕ) → 256 ≤ n → 4 ≡ 1 + length (shortest n)
+unfolding shortest
+size-long n h = rw (le-ltb n 128 (omega arith), le-ltb n 256 h) refl
+
+wrap-length : (tag : ℕ) (x : List ℕ) → length (wrap tag x) ≡ 1 + length (shortest (length x)) + length x
+unfolding wrap
+wrap-length tag x = omega (arith, length-append (shortest (length x)) x)
+
+shortest-some : (n : ℕ) → 1 ≤ length (shortest n)
+shortest-some n = by-less n 128 (λ h. omega (arith, size-short n h)) (λ h. by-less n 256 (λ l. omega (arith, size-middle n h l)) (λ l. omega (arith, size-long n l)))
+
+module _ (c : List ℕ) (o tag n q : ℕ) {h : ℕ} (e : h ≡ 1 + length (shortest (q - (o + 2)))) where
+  contents : {a x : List ℕ} → Put a c (o + 2) q x → length x ≡ q - (o + 2)
+  contents f = omega (arith, f .at)
+
+  -- it does not fit
+  pub closed-long : length c < q + (h - 2) → 2 ≤ h → o + 2 ≤ q → Closed c c o tag n q Long
+  closed-long l m k = record { is = λ a x f g. over (let z : length x ≡ q - (o + 2) = contents f in let w = wrap-length tag x in let u : length (wrap tag x) ≡ h + length x = w ∙ rw (z, ← e) refl in omega (arith, put-length f, f .at)) (put-length f) }
+
+  -- it fits
+  pub closed-moved : {c′ d : List ℕ} {p : ℕ} → 2 ≤ h → q + (h - 2) ≤ length c → Moved c c′ (o + 2) q (h - 2) → Put c′ d o p (tag ∷ shortest (q - (o + 2))) → Closed c d o tag n q (Took n (q + (h - 2)))
+  unfolding wrap
+  closed-moved {c′} {d} {p} m l v g = record {
+    is = λ a x f k.
+        let z : length x ≡ q - (o + 2) = contents f in
+        let y = closed-up 2 (h - 2) (tag ∷ shortest (q - (o + 2))) f k (omega (arith, put-length f)) (omega arith) v g in
+        wraps (rw (← z) at y) (omega (arith, put-length f));
+  }
+
+-- record by record
+walk-then : {b : List ℕ} {i m n : ℕ} {rs ws : List Rec} → Walk b i m rs → Walk b m n ws → Walk b i n (rs ++ ws)
+walk-then there g = g
+walk-then (onto h f) g = onto h (walk-then f g)
+
+pub steps-none : (b : List ℕ) (i : ℕ) → i ≤ length b → Steps b i i
+steps-none b i h = record { taken = []; walk = there; is = refl; low = omega arith; high = h }
+
+pub steps-one : {b : List ℕ} {i e : ℕ} → Ends b i e → Steps b i e
+steps-one {b} {i} {e} h = record { taken = rec (two b (i + 2)) (slice (i + 4) e b) ∷ []; walk = onto h there; is = h .is; low = omega (arith, h .low); high = h .high }
+
+pub steps-then : {b : List ℕ} {i m n : ℕ} → Steps b i m → Steps b m n → Steps b i n
+steps-then {b} {i} {m} {n} f g = record {
+  taken = f .taken ++ g .taken;
+  walk = walk-then (f .walk) (g .walk);
+  is = f .is ∙ rw (g .is) (sym (append-assoc (f .taken) (g .taken) (recordsFrom b n)));
+  low = omega (arith, f .low, g .low);
+  high = g .high;
+}
+
+pub steps-fewer : {b : List ℕ} {i n : ℕ} → Steps b i n → length (recordsFrom b n) ≤ length (recordsFrom b i)
+steps-fewer {b} {i} {n} f = rw (f .is) (omega (arith, length-append (f .taken) (recordsFrom b n)))
+
+-- nothing is made
+pub makes-none : (b a : List ℕ) (i o : ℕ) → i ≤ length b → o ≤ length a → Makes b a a i o (gives [] (recordsFrom b i)) (Took i o)
+makes-none b a i o h l = makes refl (put-none a o) (steps-none b i h) l
+
+module _ {b a c : List ℕ} {i o : ℕ} {w : Rendered} {r : Made} (m : Makes b a c i o w r) where
+  -- the same, by an equal name
+  pub makes-as : {v : Rendered} → w ≡ v → Makes b a c i o v r
+  makes-as e = rw e at m
+
+  pub makes-same : length c ≡ length a
+  makes-same = go m
+    where
+      go : {w : Rendered} {r : Made} → Makes b a c i o w r → length c ≡ length a
+      go (makes _ f _ _) = put-length f
+      go (breaks _ e) = e
+
+  module _ {n q : ℕ} (z : r ≡ Took n q) where
+    was : Makes b a c i o w (Took n q)
+    was = rw z at m
+
+    pub made-steps : Steps b i n
+    made-steps = go was
+      where
+        go : {w : Rendered} → Makes b a c i o w (Took n q) → Steps b i n
+        go (makes _ _ s _) = s
+
+    pub made-left : w .left ≡ recordsFrom b n
+    made-left = go was
+      where
+        go : {w : Rendered} → Makes b a c i o w (Took n q) → w .left ≡ recordsFrom b n
+        go (makes l _ _ _) = l
+
+    pub made-put : Put a c o q (w .bytes)
+    made-put = go was
+      where
+        go : {w : Rendered} → Makes b a c i o w (Took n q) → Put a c o q (w .bytes)
+        go (makes _ f _ _) = f
+
+    pub made-room : q ≤ length c
+    made-room = go was
+      where
+        go : {w : Rendered} → Makes b a c i o w (Took n q) → q ≤ length c
+        go (makes _ f _ h) = omega (arith, put-length f)
+
+    pub made-high : n ≤ length b
+    made-high = made-steps .high
+
+    pub made-from : o ≤ q
+    made-from = omega (arith, made-put .at)
+
+  pub made-long : r ≡ Long → length a < o + length (w .bytes)
+  made-long z = go (rw z at m)
+    where
+      go : {w : Rendered} → Makes b a c i o w Long → length a < o + length (w .bytes)
+      go (breaks h _) = h
+
+-- what comes next has the room that was there
+pub made-small : {b a c : List ℕ} {i o : ℕ} {w : Rendered} {r : Made} → Makes b a c i o w r → length a ≤ 32768 → length c ≤ 32768
+made-small m h = omega (arith, makes-same m)
+
+-- one part, then another
+module _ (p q : Renderer) (rs : List Rec) {b a c : List ℕ} {i o : ℕ} {r : Made} (m : Makes b a c i o (p rs) r) where
+  pub then-long : r ≡ Long → Makes b a c i o ((p next q) rs) Long
+  then-long z = breaks {w = (p next q) rs} (omega (arith, made-long m z, length-append (p rs .bytes) (q (p rs .left) .bytes))) (makes-same m)
+
+  module _ {n t : ℕ} (z : r ≡ Took n t) where
+    pub then-took : {d : List ℕ} {s : Made} → Makes b c d n t (q (recordsFrom b n)) s → Makes b a d i o ((p next q) rs) s
+    then-took {d} {s} k = go (rw (← made-left m z) at k)
+      where
+        go : {s : Made} → Makes b c d n t (q (p rs .left)) s → Makes b a d i o ((p next q) rs) s
+        go (makes l f e h) = makes l (put-put (made-put m z) f) (steps-then (made-steps m z) e) (omega (arith, makes-same m))
+        go (breaks h e) = breaks {w = (p next q) rs} (omega (arith, made-put m z .at, makes-same m, length-append (p rs .bytes) (q (p rs .left) .bytes))) (e ∙ makes-same m)
+
+    -- nothing more is made
+    pub then-none : q (recordsFrom b n) ≡ gives [] (recordsFrom b n) → Makes b a c i o ((p next q) rs) (Took n t)
+    then-none e = then-took (makes-as (makes-none b c n t (made-high m z) (made-room m z)) (sym e))
+
+-- an element around a part
+module _ (tag : ℕ) (p : Renderer) (rs : List Rec) where
+  pub within-short : {b a : List ℕ} {i o : ℕ} → length a < o + 2 → Makes b a a i o (within tag p rs) Long
+  within-short {b} {a} {i} {o} h = breaks {w = within tag p rs} (omega (arith, wrap-length tag (p rs .bytes), shortest-some (length (p rs .bytes)))) refl
+
+  module _ {b a c : List ℕ} {i o : ℕ} {r : Made} (m : Makes b a c i (o + 2) (p rs) r) where
+    pub within-long : r ≡ Long → Makes b a c i o (within tag p rs) Long
+    within-long z = breaks {w = within tag p rs} (omega (arith, made-long m z, wrap-length tag (p rs .bytes), shortest-some (length (p rs .bytes)))) (makes-same m)
+
+    pub within-took : {d : List ℕ} {s : Made} {n q : ℕ} → r ≡ Took n q → Closed c d o tag n q s → Makes b a d i o (within tag p rs) s
+    within-took {d} {s} {n} {q} z k = go (k .is a (p rs .bytes) (made-put m z) (omega (arith, made-room m z, makes-same m)))
+      where
+        go : {s : Made} → Wraps a d o tag (p rs .bytes) n s → Makes b a d i o (within tag p rs) s
+        go (wraps f h) = makes (made-left m z) f (made-steps m z) h
+        go (over h e) = breaks h e
+
+-- by the next record
+module _ (k : ℕ) (p : Renderer) (b : List ℕ) (i : ℕ) {t : Bool} (e : t ≡ nextIs k (recordsFrom b i)) where
+  when-is : (rs : List Rec) → nextIs k rs ≡ true → when (k ∷ []) p rs ≡ p rs
+  when-is [] q = absurd (let z : _≡_ {A = ℕ} 0 1 = cc in omega arith)
+  when-is (r ∷ rs) q = rw q refl
+
+  when-not : (rs : List Rec) → nextIs k rs ≡ false → when (k ∷ []) p rs ≡ gives [] rs
+  when-not [] q = refl
+  when-not (r ∷ rs) q = rw q refl
+
+  pub when-yes : {a c : List ℕ} {o : ℕ} {r : Made} → t ≡ true → Makes b a c i o (p (recordsFrom b i)) r → Makes b a c i o (when (k ∷ []) p (recordsFrom b i)) r
+  when-yes z m = makes-as m (sym (when-is (recordsFrom b i) (sym e ∙ z)))
+
+  pub when-no : {a : List ℕ} {o : ℕ} → t ≡ false → i ≤ length b → o ≤ length a → Makes b a a i o (when (k ∷ []) p (recordsFrom b i)) (Took i o)
+  when-no {a} {o} z h l = makes-as (makes-none b a i o h l) (sym (when-not (recordsFrom b i) (sym e ∙ z)))
+
+-- a record that is next is there
+pub next-there : (b : List ℕ) (i k : ℕ) {t : Bool} → t ≡ nextIs k (recordsFrom b i) → t ≡ true → i + 4 ≤ length b
+next-there b i k {t} e z = by-less (length b) (i + 4) (λ h. absurd (go (from-few b i h))) (λ h. h)
+  where
+    go : recordsFrom b i ≡ [] → ⊥
+    go q = let x : true ≡ nextIs k [] = sym z ∙ e ∙ ap (nextIs k) q in let y : _≡_ {A = ℕ} 0 1 = cc in omega arith
+
+-- from the next record
+pub from-none : (f : ℕ → List ℕ → Renderer) {b a : List ℕ} {i o : ℕ} → length b < i + 4 → i ≤ length b → o ≤ length a → Makes b a a i o (from f (recordsFrom b i)) (Took i o)
+from-none f {b} {a} {i} {o} h l m = let e = from-few b i h in makes-as (makes-none b a i o l m) (rw e refl)
+
+-- what is made of the records behind the next one, with that one taken
+pub makes-behind : {b a c : List ℕ} {i e o : ℕ} {w : Rendered} {r : Made} → Ends b i e → Makes b a c e o w r → Makes b a c i o w r
+makes-behind h (makes l p s q) = makes l p (steps-then (steps-one h) s) q
+makes-behind h (breaks l q) = breaks l q
+
+pub from-some : (f : ℕ → List ℕ → Renderer) {b a c : List ℕ} {i e o : ℕ} {r : Made} → Ends b i e → Makes b a c e o (f (two b (i + 2)) (slice (i + 4) e b) (recordsFrom b e)) r → Makes b a c i o (from f (recordsFrom b i)) r
+from-some f h m = rw (h .is) (makes-behind h m)
+
+-- bytes that are put for one record
+pub puts-took : {b a c : List ℕ} {e o q : ℕ} {x : List ℕ} → Put a c o q x → e ≤ length b → q ≤ length a → Makes b a c e o (gives x (recordsFrom b e)) (Took e q)
+puts-took {b} {a} {c} {e} f h l = makes refl f (steps-none b e h) l
+
+pub puts-long : {b a c : List ℕ} {i o q : ℕ} {x : List ℕ} (rs : List Rec) → Put a c o q x → length a < q → Makes b a c i o (gives x rs) Long
+puts-long {x = x} rs f l = breaks {w = gives x rs} (omega (arith, f .at)) (put-length f)
+
+-- at least one record is taken
+pub onward-one : {b : List ℕ} {i e : ℕ} {r : Made} → Ends b i e → ((n q : ℕ) → r ≡ Took n q → Steps b e n) → Onward b i r
+onward-one {b} {i} {e} h s = record { is = λ n q z. rw (h .is) (omega (arith, steps-fewer (s n q z))) }
+
+pub onward-long : {b : List ℕ} {i : ℕ} → Onward b i Long
+onward-long = record { is = λ n q z. absurd (let y : _≡_ {A = ℕ} 0 1 = cc in omega arith) }

@@ -1,0 +1,118 @@
+-- Rules and common attributes as they are made: the ways through their code.
+use Prim.Native.Nat.{ℕ, zero, suc, _+_, _<_, _≤_}
+use mathlib.Core.Path.{_≡_, sym, _∙_}
+use mathlib.Core.Bool.{Bool, true, false}
+use mathlib.Core.List.{List, [], _∷_}
+use native.Mathlib.Omega.{arith}
+use lib.ListN.{length}
+use Rattle.writer.specs.declared.made.Made.{Made}
+use Rattle.writer.specs.declared.made.Made.the-variants.{Took, Long}
+use Rattle.rules.specs.declared.table.Sort.{Sort}
+use Rattle.rules.specs.declared.table.Sort.the-variants.{Always, Identifier, Not, And, Or, Other}
+use Rattle.rules.specs.Reading.{Rec, count}
+use Rattle.rules.specs.Tables.{ruleRows, commonRows, mark, kindOf, sortBy}
+use Rattle.rules.specs.Render.{Renderer, _next_, within, when, rRow, rRows, rKeep, rAll, rConditionAs, rConditionOf, rCondition, rRule, rCommon}
+use Rattle.rules.specs.Book.{recordsFrom, nextIs}
+use Rattle.writer.specs.Making.{Makes, Closed}
+use Rattle.writer.proofs.MadeLaws.{made-left, within-short, within-long, within-took, when-yes, when-no}
+use Rattle.writer.proofs.ManyLaws.{Fewer, next-fewer, from-fewer, keep-fewer, times-fewer, three-first, three-second, three-third, Repeating, repeating-next}
+
+-- what stands in a rule, and the rules in their element
+abbrev Contents : Renderer
+Contents = rRows ruleRows next rCondition 8 next rKeep 0x012c
+
+abbrev Rules : Renderer
+Rules = within 0x30 (rAll (mark ruleRows) rRule)
+
+-- ---- a rule takes a record
+as-fewer : (q : Renderer) → Fewer q → (x : Sort) (p : List ℕ) → Fewer (rConditionAs q x p)
+unfolding rConditionAs
+as-fewer q f Always p rs = omega arith
+as-fewer q f Identifier p rs = omega arith
+as-fewer q f Not p rs = f rs
+as-fewer q f And p rs = times-fewer (count p) q f rs
+as-fewer q f Or p rs = times-fewer (count p) q f rs
+as-fewer q f Other p rs = omega arith
+
+condition-fewer : (l : ℕ) → Fewer (rCondition l)
+unfolding rCondition rConditionOf
+condition-fewer zero rs = omega arith
+condition-fewer (suc l) rs = from-fewer (rConditionOf (λ rs. rCondition l rs)) (λ k p. as-fewer (λ rs. rCondition l rs) (condition-fewer l) (sortBy kindOf k) p) rs
+
+first-taken : (rs : List Rec) → nextIs 0x0125 rs ≡ true → length (rRows ruleRows rs .left) < length rs
+unfolding rRows rRow
+first-taken [] e = absurd (let z : _≡_ {A = ℕ} 0 1 = cc in omega arith)
+first-taken (r ∷ rs) e = rw e (omega arith)
+
+rule-taken : (rs : List Rec) → nextIs 0x0125 rs ≡ true → length (rRule rs .left) < length rs
+unfolding rRule
+rule-taken rs e = omega (arith, first-taken rs e, next-fewer (rCondition 8) (rKeep 0x012c) (condition-fewer 8) (keep-fewer 0x012c) (rRows ruleRows rs .left))
+
+-- ---- inside a rule
+module _ {b a c : List ℕ} {i o : ℕ} {r : Made} (m : Makes b a c i o (rRows ruleRows (recordsFrom b i)) r) where
+  pub rule-first : r ≡ Long → Makes b a c i o (Contents (recordsFrom b i)) Long
+  rule-first z = three-first (rRows ruleRows) (rCondition 8) (rKeep 0x012c) m z
+
+  module _ {n t : ℕ} (z : r ≡ Took n t) {d : List ℕ} {u : Made} (k : Makes b c d n t (rCondition 8 (recordsFrom b n)) u) where
+    pub rule-second : u ≡ Long → Makes b a d i o (Contents (recordsFrom b i)) Long
+    rule-second w = three-second (rRows ruleRows) (rCondition 8) (rKeep 0x012c) m z k w
+
+    pub rule-third : {e : List ℕ} {x y : ℕ} {v : Made} → u ≡ Took x y → Makes b d e x y (rKeep 0x012c (recordsFrom b x)) v → Makes b a e i o (Contents (recordsFrom b i)) v
+    rule-third w l = three-third (rRows ruleRows) (rCondition 8) (rKeep 0x012c) m z k w l
+
+-- ---- a rule
+module _ (b : List ℕ) (i : ℕ) {a : List ℕ} {o : ℕ} where
+  pub rule-short : length a < o + 2 → Makes b a a i o (rRule (recordsFrom b i)) Long
+  unfolding rRule
+  rule-short h = within-short 0x30 Contents (recordsFrom b i) h
+
+  module _ {c : List ℕ} {r : Made} (m : Makes b a c i (o + 2) (Contents (recordsFrom b i)) r) where
+    pub rule-long : r ≡ Long → Makes b a c i o (rRule (recordsFrom b i)) Long
+    unfolding rRule
+    rule-long z = within-long 0x30 Contents (recordsFrom b i) m z
+
+    pub rule-took : {d : List ℕ} {s : Made} {n q : ℕ} → r ≡ Took n q → Closed c d o 0x30 n q s → Makes b a d i o (rRule (recordsFrom b i)) s
+    unfolding rRule
+    rule-took z k = within-took 0x30 Contents (recordsFrom b i) m z k
+
+-- ---- rules
+module _ {b : List ℕ} {n : ℕ} {y : Bool} (e : y ≡ nextIs 0x0125 (recordsFrom b n)) (v : y ≡ true) {c d : List ℕ} {t : ℕ} {r : Made} (m : Makes b c d n t (rRule (recordsFrom b n)) r) {x u : ℕ} (z : r ≡ Took x u) where
+  pub rules-less : length (recordsFrom b x) < length (recordsFrom b n)
+  rules-less = rw (← made-left m z) (rule-taken (recordsFrom b n) (sym e ∙ v))
+
+  pub rules-next : {a : List ℕ} {i o : ℕ} → Repeating b 0x0125 rRule a c i o n t → Repeating b 0x0125 rRule a d i o x u
+  rules-next h = repeating-next h e v m z rules-less
+
+module _ (b : List ℕ) (i : ℕ) {a : List ℕ} {o : ℕ} where
+  pub rules-short : length a < o + 2 → Makes b a a i o (Rules (recordsFrom b i)) Long
+  rules-short h = within-short 0x30 (rAll (mark ruleRows) rRule) (recordsFrom b i) h
+
+  module _ {c : List ℕ} {r : Made} (m : Makes b a c i (o + 2) (rAll (mark ruleRows) rRule (recordsFrom b i)) r) where
+    pub rules-long : r ≡ Long → Makes b a c i o (Rules (recordsFrom b i)) Long
+    rules-long z = within-long 0x30 (rAll (mark ruleRows) rRule) (recordsFrom b i) m z
+
+    pub rules-took : {d : List ℕ} {s : Made} {n q : ℕ} → r ≡ Took n q → Closed c d o 0x30 n q s → Makes b a d i o (Rules (recordsFrom b i)) s
+    rules-took z k = within-took 0x30 (rAll (mark ruleRows) rRule) (recordsFrom b i) m z k
+
+-- ---- rules where they may stand
+module _ (b : List ℕ) (i : ℕ) {y : Bool} (e : y ≡ nextIs 0x0125 (recordsFrom b i)) where
+  pub due-here : {a c : List ℕ} {o : ℕ} {r : Made} → y ≡ true → Makes b a c i o (Rules (recordsFrom b i)) r → Makes b a c i o (when (mark ruleRows) Rules (recordsFrom b i)) r
+  due-here z m = when-yes 0x0125 Rules b i e z m
+
+  pub due-absent : {a : List ℕ} {o : ℕ} → y ≡ false → i ≤ length b → o ≤ length a → Makes b a a i o (when (mark ruleRows) Rules (recordsFrom b i)) (Took i o)
+  due-absent z h l = when-no 0x0125 Rules b i e z h l
+
+-- ---- common attributes
+module _ {b a c : List ℕ} {i o : ℕ} {r : Made} (m : Makes b a c i o (rRows commonRows (recordsFrom b i)) r) where
+  pub common-first : r ≡ Long → Makes b a c i o (rCommon (recordsFrom b i)) Long
+  unfolding rCommon
+  common-first z = three-first (rRows commonRows) (when (mark ruleRows) Rules) (rKeep 0x012f) m z
+
+  module _ {n t : ℕ} (z : r ≡ Took n t) {d : List ℕ} {u : Made} (k : Makes b c d n t (when (mark ruleRows) Rules (recordsFrom b n)) u) where
+    pub common-second : u ≡ Long → Makes b a d i o (rCommon (recordsFrom b i)) Long
+    unfolding rCommon
+    common-second w = three-second (rRows commonRows) (when (mark ruleRows) Rules) (rKeep 0x012f) m z k w
+
+    pub common-third : {e : List ℕ} {x y : ℕ} {v : Made} → u ≡ Took x y → Makes b d e x y (rKeep 0x012f (recordsFrom b x)) v → Makes b a e i o (rCommon (recordsFrom b i)) v
+    unfolding rCommon
+    common-third w l = three-third (rRows commonRows) (when (mark ruleRows) Rules) (rKeep 0x012f) m z k w l

@@ -1,0 +1,286 @@
+-- The dump that could have a book, made.
+use Prim.Native.Nat.{ℕ, suc, _+_, _-_, _%_, _<_, _≤_}
+use mathlib.Core.Path.{_≡_, refl, sym, ap, _∙_}
+use mathlib.Core.Bool.{Bool, true, false, _&&_}
+use mathlib.Core.List.{List, [], _∷_, _++_, append-assoc, append-nil}
+use native.Mathlib.Omega.{arith}
+use lib.ListN.{length, getD, drop, length-append}
+use lib.Seq.{slice, slice-cons, length-slice}
+use lib.Dec.{leb, eqb}
+use borrow.Author.Tests.{le-leb, lt-leb, eq-eqb, ne-eqb, eqb-true, leb-true}
+use Rattle.elements.specs.Choice.{choose}
+use Rattle.elements.specs.Put.{Put, le16}
+use Rattle.elements.specs.PutLaws.{put-none, put-put, put-then, put-length}
+use Rattle.elements.specs.Record.{recordBytes}
+use Rattle.writer.specs.declared.made.Made.{Made}
+use Rattle.writer.specs.declared.made.Made.the-variants.{Took, Long}
+use Rattle.rules.specs.Reading.{Rec, rec}
+use Rattle.rules.specs.Files.{Name, two, namesOf, nameOf}
+use Rattle.rules.specs.Book.{records, recordsFrom, Ends}
+use Rattle.rules.specs.Render.{Rendered, gives, rCia, rOd, rDirectory, rDirectories, framing, used, render}
+use Rattle.rules.specs.DumpLaws.{used-is}
+use Rattle.writer.specs.Making.{Walk, there, onto, Steps, Makes, makes, breaks, Moved, Fronted, Fitted, fits, beyond, names, Named, FileMade, FilesMade, TwoMade}
+use Rattle.writer.proofs.MakeEntryLaws.{tail-some}
+use Rattle.writer.proofs.MadeLaws.{closed-up, moved-same, makes-same, made-put, made-left, made-room, made-steps, made-long, made-high}
+
+-- a dump record around contents
+framing-length : (k : ℕ) (x : List ℕ) → length (framing k x) ≡ 4 + length x
+unfolding framing recordBytes
+framing-length k x = omega arith
+
+pub fronted : (c : List ℕ) (o k q : ℕ) {c′ d : List ℕ} {p p′ : ℕ} → o + 4 ≤ q → q ≤ length c → Put c c′ o p (le16 (q - (o + 4) + 2)) → Put c′ d p p′ (le16 k) → Fronted c d o k q
+unfolding framing recordBytes
+fronted c o k q {c′} {d} {p} {p′} h l f g = record {
+  is = λ a x u v.
+      let z : q - (o + 4) ≡ length x = omega (arith, u .at) in
+      let w : q + 0 ≡ q = omega arith in
+      let y = closed-up 4 0 (le16 (q - (o + 4) + 2) ++ le16 k) u v (omega arith) (omega arith) (moved-same c (o + 4) q 0 refl h (omega arith)) (put-put f g) in
+      rw (w, z) at y;
+}
+
+module _ (k : ℕ) (w : Rendered) {b a : List ℕ} {i o : ℕ} where
+  pub front-short : length a < o + 4 → Makes b a a i o (gives (framing k (w .bytes)) (w .left)) Long
+  front-short h = breaks {w = gives (framing k (w .bytes)) (w .left)} (omega (arith, framing-length k (w .bytes))) refl
+
+  module _ {c : List ℕ} {r : Made} (m : Makes b a c i (o + 4) w r) where
+    pub front-long : r ≡ Long → Makes b a c i o (gives (framing k (w .bytes)) (w .left)) Long
+    front-long z = breaks {w = gives (framing k (w .bytes)) (w .left)} (omega (arith, made-long m z, framing-length k (w .bytes))) (makes-same m)
+
+    pub front-took : {d : List ℕ} {n q : ℕ} → r ≡ Took n q → Fronted c d o k q → Makes b a d i o (gives (framing k (w .bytes)) (w .left)) (Took n q)
+    front-took {d} {n} {q} z f =
+        let l : q ≤ length a = omega (arith, made-room m z, makes-same m) in
+        makes {w = gives (framing k (w .bytes)) (w .left)} (made-left m z) (f .is a (w .bytes) (made-put m z) l) (made-steps m z) l
+
+-- whether a record names a path
+module _ (b : List ℕ) (j e : ℕ) where
+  pub name-kind : {x : ℕ} → x ≡ two b (j + 2) → (x ≡ 0x0110 → ⊥) → false ≡ names b j e
+  name-kind q z = rw (← q, ne-eqb _ 0x0110 z) refl
+
+  pub name-short : {x : ℕ} → x ≡ two b (j + 2) → x ≡ 0x0110 → e - (j + 4) < 2 → false ≡ names b j e
+  name-short q z l = rw (← q, eq-eqb _ 0x0110 z, lt-leb 2 (e - (j + 4)) l) refl
+
+  pub name-byte : {x y : ℕ} → x ≡ two b (j + 2) → x ≡ 0x0110 → 2 ≤ e - (j + 4) → y ≡ getD (slice (j + 4) e b) 1 0 → eqb y 0 ≡ names b j e
+  name-byte q z l t = rw (← q, ← t, eq-eqb _ 0x0110 z, le-leb 2 (e - (j + 4)) l) refl
+
+-- a path behind its length
+pub path-named : (b : List ℕ) (p e : ℕ) {a c d : List ℕ} {o n r : ℕ} → p ≤ e → e ≤ length b → Put a c o n ((e - p) % 256 ∷ []) → Put c d n r (slice p e b) → Named b a d p e o r
+path-named b p e h l f g = let z : length (slice p e b) ≡ e - p = length-slice p e b l in record { is = rw z (put-put f g) }
+
+-- a directory file
+abbrev fileBytes : List ℕ → ℕ → ℕ → ℕ → List ℕ
+fileBytes b j e i = length (slice (j + 6) e b) % 256 ∷ (slice (j + 6) e b ++ rDirectory (recordsFrom b i) .bytes)
+
+file-length : (b : List ℕ) (j e i : ℕ) → length (framing 3 (fileBytes b j e i)) ≡ 5 + length (slice (j + 6) e b) + length (rDirectory (recordsFrom b i) .bytes)
+file-length b j e i = omega (arith, framing-length 3 (fileBytes b j e i), length-append (slice (j + 6) e b) (rDirectory (recordsFrom b i) .bytes))
+
+module _ (b : List ℕ) (j e i o : ℕ) {a c : List ℕ} {p : ℕ} (f : Named b a c (j + 6) e (o + 4) p) where
+  pub file-short : length c < p → FileMade b a c j e i o Long
+  file-short h = record { is = breaks {w = gives (framing 3 (fileBytes b j e i)) (rDirectory (recordsFrom b i) .left)} (omega (arith, f .is .at, put-length (f .is), file-length b j e i)) (put-length (f .is)) }
+
+  module _ {d : List ℕ} {r : Made} (m : Makes b c d i p (rDirectory (recordsFrom b i)) r) where
+    pub file-long : r ≡ Long → FileMade b a d j e i o Long
+    file-long z = record { is = breaks {w = gives (framing 3 (fileBytes b j e i)) (rDirectory (recordsFrom b i) .left)} (omega (arith, made-long m z, f .is .at, put-length (f .is), file-length b j e i)) (makes-same m ∙ put-length (f .is)) }
+
+    pub file-took : {g : List ℕ} {n q : ℕ} → r ≡ Took n q → Fronted d g o 3 q → FileMade b a g j e i o (Took n q)
+    file-took {g} {n} {q} z k =
+        let l : q ≤ length a = omega (arith, made-room m z, makes-same m, put-length (f .is)) in
+        record { is = makes {w = gives (framing 3 (fileBytes b j e i)) (rDirectory (recordsFrom b i) .left)} (made-left m z) (k .is a (fileBytes b j e i) (put-put (f .is) (made-put m z)) l) (made-steps m z) l }
+
+    pub file-behind : {n q : ℕ} → r ≡ Took n q → o + 4 ≤ q
+    file-behind z = omega (arith, made-put m z .at, f .is .at)
+
+-- a record ends in one place
+rec-pay : {k k′ : ℕ} {p p′ : List ℕ} {rs ws : List Rec} → rec k p ∷ rs ≡ rec k′ p′ ∷ ws → p ≡ p′
+rec-pay {k} {k′} {p} {p′} e = let q : rec k p ≡ rec k′ p′ = cc in ap (λ (r : Rec). r .pay) q
+
+pub ends-same : {b : List ℕ} {i e e′ : ℕ} → Ends b i e → Ends b i e′ → e ≡ e′
+ends-same {b} {i} {e} {e′} f g =
+    let q : slice (i + 4) e b ≡ slice (i + 4) e′ b = rec-pay (sym (f .is) ∙ g .is) in
+    omega (arith, ap length q, length-slice (i + 4) e b (f .high), length-slice (i + 4) e′ b (g .high), f .low, g .low)
+
+walk-low : {b : List ℕ} {i n : ℕ} {rs : List Rec} → Walk b i n rs → i ≤ n
+walk-low there = omega arith
+walk-low (onto h f) = omega (arith, h .low, walk-low f)
+
+-- the first record of a walk
+pub record FirstOf (b : List ℕ) (i e n : ℕ) (rs : List Rec) : Type 0 where
+  pub rest : List Rec
+  pub is : rs ≡ rec (two b (i + 2)) (slice (i + 4) e b) ∷ rest
+  pub walk : Walk b e n rest
+
+first-of : {b : List ℕ} {i e n : ℕ} {rs : List Rec} → Ends b i e → i < n → Walk b i n rs → FirstOf b i e n rs
+first-of h l there = absurd (omega arith)
+first-of h l (onto {rs = rs} k g) = let q = ends-same k h in record { rest = rs; is = rw q refl; walk = rw q at g }
+
+-- a walk has one list of records
+walk-same : {b : List ℕ} {i n : ℕ} {rs ws : List Rec} → Walk b i n rs → Walk b i n ws → rs ≡ ws
+walk-same there g = none g refl
+  where
+    none : {b : List ℕ} {i n : ℕ} {ws : List Rec} → Walk b i n ws → i ≡ n → [] ≡ ws
+    none there e = refl
+    none (onto h f) e = absurd (omega (arith, h .low, walk-low f))
+walk-same {b} {i} (onto {e = e} h f) g = let w = first-of h (omega (arith, h .low, walk-low f)) g in ap (λ (r : List Rec). rec (two b (i + 2)) (slice (i + 4) e b) ∷ r) (walk-same f (w .walk)) ∙ sym (w .is)
+
+-- the names of records
+either-way : {A : Type 0} (c d : Bool) (x y : A) → (c && d) ≡ false → choose c (λ _. choose d (λ _. x) (λ _. y)) (λ _. y) ≡ y
+either-way true true x y e = absurd (let z : _≡_ {A = ℕ} 0 1 = cc in omega arith)
+either-way true false x y e = refl
+either-way false d x y e = refl
+
+no-matter : {A : Type 0} (c : Bool) (y : A) → choose c (λ _. y) (λ _. y) ≡ y
+no-matter true y = refl
+no-matter false y = refl
+
+not-named : (k : ℕ) (p : List ℕ) (rs : List Rec) → (eqb k 0x0110 && (leb 2 (length p) && eqb (getD p 1 0) 0)) ≡ false → namesOf (rec k p ∷ rs) ≡ namesOf rs
+unfolding namesOf
+not-named k [] rs e = no-matter (eqb k 0x0110) (namesOf rs)
+not-named k (x ∷ []) rs e = no-matter (eqb k 0x0110) (namesOf rs)
+not-named k (x ∷ y ∷ p) rs e = either-way (eqb k 0x0110) (eqb y 0) (record { tag = x; path = p } ∷ namesOf rs) (namesOf rs) (rw (le-leb 2 (length (x ∷ y ∷ p)) (omega arith)) at e)
+
+both : (c d : Bool) → (c && d) ≡ true → (c ≡ true) × (d ≡ true)
+both true true e = (refl, refl)
+both true false e = absurd (let z : _≡_ {A = ℕ} 0 1 = cc in omega arith)
+both false d e = absurd (let z : _≡_ {A = ℕ} 0 1 = cc in omega arith)
+
+so-named : (k : ℕ) (p : List ℕ) (rs : List Rec) → (eqb k 0x0110 && (leb 2 (length p) && eqb (getD p 1 0) 0)) ≡ true → namesOf (rec k p ∷ rs) ≡ record { tag = getD p 0 0; path = drop 2 p } ∷ namesOf rs
+unfolding namesOf
+so-named k [] rs e = let u = both (eqb k 0x0110) (leb 2 0 && eqb 0 0) e in absurd (let z : _≡_ {A = ℕ} 0 1 = cc in omega arith)
+so-named k (x ∷ []) rs e = let u = both (eqb k 0x0110) (leb 2 1 && eqb 0 0) e in absurd (let z : _≡_ {A = ℕ} 0 1 = cc in omega arith)
+so-named k (x ∷ y ∷ p) rs e = let u = both (eqb k 0x0110) (leb 2 (length (x ∷ y ∷ p)) && eqb y 0) e in let v = both (leb 2 (length (x ∷ y ∷ p))) (eqb y 0) (u .1) in rw (u .0, v .1) refl
+
+-- the files are being made: those of the records from k on are left, and their objects' records start at n
+pub record Filing (b a c : List ℕ) (j end i o k n p : ℕ) : Type 0 where
+  pub rest : List Rec
+  pub walk : Walk b k end rest
+  pub made : List ℕ
+  pub put : Put a c o p made
+  pub room : p ≤ length a
+  pub same : length c ≡ length a
+  pub high : n ≤ length b
+  pub whole : (rs : List Rec) → Walk b j end rs → rDirectories (namesOf rs) (recordsFrom b i) ≡ made ++ rDirectories (namesOf rest) (recordsFrom b n)
+
+pub filing-start : (b a : List ℕ) (j end i o : ℕ) → Steps b j end → i ≤ length b → o ≤ length a → Filing b a a j end i o j i o
+filing-start b a j end i o s h l = record {
+  rest = s .taken;
+  walk = s .walk;
+  made = [];
+  put = put-none a o;
+  room = l;
+  same = refl;
+  high = h;
+  whole = λ rs w. rw (walk-same w (s .walk)) refl;
+}
+
+walk-none : {b : List ℕ} {k end : ℕ} {rs : List Rec} → Walk b k end rs → end ≤ k → rs ≡ []
+walk-none there l = refl
+walk-none (onto h f) l = absurd (omega (arith, h .low, walk-low f))
+
+-- the record at k is there
+walk-room : {b : List ℕ} {k end : ℕ} {rs : List Rec} → Walk b k end rs → k < end → k + 4 ≤ length b
+walk-room there l = absurd (omega arith)
+walk-room (onto h f) l = omega (arith, h .low, h .high)
+
+module _ {b a c : List ℕ} {j end i o k n p : ℕ} (m : Filing b a c j end i o k n p) where
+  pub filing-room : k < end → k + 4 ≤ length b
+  filing-room l = walk-room (m .walk) l
+
+  pub filing-done : end ≤ k → FilesMade b a c j end i o (Took n p)
+  unfolding rDirectories namesOf
+  filing-done l = record { is = λ rs w. let z : m .made ++ rDirectories (namesOf (m .rest)) (recordsFrom b n) ≡ m .made = ap (λ (x : List Rec). m .made ++ rDirectories (namesOf x) (recordsFrom b n)) (walk-none (m .walk) l) ∙ append-nil (m .made) in rw (m .whole rs w ∙ z) (fits (m .put) (m .room)) }
+
+  module _ (l : k < end) {e : ℕ} (h : Ends b k e) {t : Bool} (q : t ≡ names b k e) where
+    first : FirstOf b k e end (m .rest)
+    first = first-of h l (m .walk)
+
+    size : e - (k + 4) ≡ length (slice (k + 4) e b)
+    size = sym (length-slice (k + 4) e b (h .high))
+
+    -- it names no path
+    pub filing-pass : t ≡ false → Filing b a c j end i o e n p
+    filing-pass z =
+        let w = first in
+        let u = not-named (two b (k + 2)) (slice (k + 4) e b) (w .rest) (rw (size) at (sym q ∙ z)) in
+        record { rest = w .rest; walk = w .walk; made = m .made; put = m .put; room = m .room; same = m .same; high = m .high; whole = λ rs v. m .whole rs v ∙ ap (λ (x : List Name). m .made ++ rDirectories x (recordsFrom b n)) (ap namesOf (w .is) ∙ u) }
+
+    -- it names one
+    pub filing-long-enough : t ≡ true → k + 6 ≤ e
+    filing-long-enough z = let u = both (eqb (two b (k + 2)) 0x0110) (leb 2 (e - (k + 4)) && eqb (getD (slice (k + 4) e b) 1 0) 0) (sym q ∙ z) in let v = both (leb 2 (e - (k + 4))) (eqb (getD (slice (k + 4) e b) 1 0) 0) (u .1) in omega (arith, leb-true 2 (e - (k + 4)) (v .0), h .low)
+
+    module _ (z : t ≡ true) {d : List ℕ} {r : Made} (f : FileMade b c d k e n p r) where
+      named : (rs : List Rec) → Walk b j end rs → rDirectories (namesOf rs) (recordsFrom b i) ≡ m .made ++ (framing 3 (fileBytes b k e n) ++ rDirectories (namesOf (first .rest)) (rDirectory (recordsFrom b n) .left))
+      unfolding rDirectories
+      named rs v =
+          let w = first in
+          let u = so-named (two b (k + 2)) (slice (k + 4) e b) (w .rest) (rw (size) at (sym q ∙ z)) in
+          let y = tail-some k e (filing-long-enough z) .is b (h .high) in
+          let s : record { tag = getD (slice (k + 4) e b) 0 0; path = drop 2 (slice (k + 4) e b) } ∷ namesOf (w .rest) ≡ record { tag = getD (slice (k + 4) e b) 0 0; path = slice (k + 6) e b } ∷ namesOf (w .rest) = rw y refl in
+          m .whole rs v ∙ ap (λ (x : List Name). m .made ++ rDirectories x (recordsFrom b n)) (ap namesOf (w .is) ∙ u ∙ s)
+
+      pub filing-long : r ≡ Long → FilesMade b a d j end i o Long
+      filing-long y = record { is = λ rs v. rw (named rs v) (beyond (omega (arith, made-long (f .is) y, m .put .at, m .same, length-append (m .made) (framing 3 (fileBytes b k e n) ++ rDirectories (namesOf (first .rest)) (rDirectory (recordsFrom b n) .left)), length-append (framing 3 (fileBytes b k e n)) (rDirectories (namesOf (first .rest)) (rDirectory (recordsFrom b n) .left)))) (makes-same (f .is) ∙ m .same)) }
+
+      pub filing-more : {n′ p′ : ℕ} → r ≡ Took n′ p′ → Filing b a d j end i o e n′ p′
+      filing-more {n′} {p′} y =
+          let w = first in
+          let x : rDirectory (recordsFrom b n) .left ≡ recordsFrom b n′ = made-left (f .is) y in
+          record {
+            rest = w .rest;
+            walk = w .walk;
+            made = m .made ++ framing 3 (fileBytes b k e n);
+            put = put-put (m .put) (made-put (f .is) y);
+            room = omega (arith, made-room (f .is) y, makes-same (f .is), m .same);
+            same = makes-same (f .is) ∙ m .same;
+            high = made-high (f .is) y;
+            whole = λ rs v. named rs v ∙ rw x (sym (append-assoc (m .made) (framing 3 (fileBytes b k e n)) (rDirectories (namesOf (w .rest)) (recordsFrom b n′))));
+          }
+
+used-of : (rs taken left l : List Rec) → l ≡ left → rs ≡ taken ++ left → used rs l ≡ taken
+used-of rs taken left l e q = rw (q, e) (used-is taken left)
+
+-- EF.OD's record, then the files
+module _ {b a c : List ℕ} {i o : ℕ} {r : Made} (m : Makes b a c i o (gives (framing 2 (rOd (recordsFrom b i) .bytes)) (rOd (recordsFrom b i) .left)) r) where
+  pub two-long : r ≡ Long → TwoMade b a c i o Long
+  two-long z =
+      let w = rOd (recordsFrom b i) in
+      record { is = beyond (omega (arith, made-long m z, length-append (framing 2 (w .bytes)) (rDirectories (namesOf (used (recordsFrom b i) (w .left))) (w .left)))) (makes-same m) }
+
+  pub two-took : {d : List ℕ} {n q : ℕ} {s : Made} → r ≡ Took n q → FilesMade b c d i n n q s → TwoMade b a d i o s
+  two-took {d} {n} {q} {s} z f =
+      let w = rOd (recordsFrom b i) in
+      let t = made-steps m z in
+      let e : w .left ≡ recordsFrom b n = made-left m z in
+      let u : used (recordsFrom b i) (w .left) ≡ t .taken = used-of (recordsFrom b i) (t .taken) (recordsFrom b n) (w .left) e (t .is) in
+      record { is = go′ (framing 2 (w .bytes)) u e (go (f .is (t .taken) (t .walk))) }
+    where
+      go′ : (y : List ℕ) {us us′ l l′ : List Rec} {s : Made} → us ≡ us′ → l ≡ l′ → Fitted a d o (y ++ rDirectories (namesOf us′) l′) s → Fitted a d o (y ++ rDirectories (namesOf us) l) s
+      go′ y u e f = rw (u, e) f
+
+      go : {x : List ℕ} {s : Made} → Fitted c d q x s → Fitted a d o (framing 2 (rOd (recordsFrom b i) .bytes) ++ x) s
+      go (fits g h) = fits (put-put (made-put m z) g) (omega (arith, makes-same m))
+      go {x} (beyond h g) = beyond (omega (arith, made-put m z .at, makes-same m, length-append (framing 2 (rOd (recordsFrom b i) .bytes)) x)) (g ∙ makes-same m)
+
+-- CIAInfo's record, then these
+module _ (b : List ℕ) {a c : List ℕ} {r : Made} (m : Makes b a c 0 0 (gives (framing 1 (rCia (recordsFrom b 0) .bytes)) (rCia (recordsFrom b 0) .left)) r) where
+  pub whole-long : r ≡ Long → Fitted a c 0 (render (records b)) Long
+  unfolding render recordsFrom
+  whole-long z =
+      let w = rCia (records b) in
+      let o = rOd (w .left) in
+      beyond (omega (arith, made-long m z, length-append (framing 1 (w .bytes)) (framing 2 (o .bytes) ++ rDirectories (namesOf (used (w .left) (o .left))) (o .left)))) (makes-same m)
+
+  pub whole-took : {d : List ℕ} {n q : ℕ} {s : Made} → r ≡ Took n q → TwoMade b c d n q s → Fitted a d 0 (render (records b)) s
+  unfolding render recordsFrom
+  whole-took {d} {n} {q} {s} z f =
+      let e : rCia (records b) .left ≡ recordsFrom b n = made-left m z in
+      rw e (go (f .is))
+    where
+      go : {x : List ℕ} {s : Made} → Fitted c d q x s → Fitted a d 0 (framing 1 (rCia (recordsFrom b 0) .bytes) ++ x) s
+      go (fits g h) = fits (put-put (made-put m z) g) (omega (arith, makes-same m))
+      go {x} (beyond h g) = beyond (omega (arith, made-put m z .at, makes-same m, length-append (framing 1 (rCia (recordsFrom b 0) .bytes)) x)) (g ∙ makes-same m)
+
+-- the walk goes on
+pub filing-less : {b : List ℕ} {k e : ℕ} (end : ℕ) → Ends b k e → k < end → end - e < end - k
+filing-less end h l = omega (arith, h .low)
+
+pub ends-high : {b : List ℕ} {k e : ℕ} → Ends b k e → e ≤ length b
+ends-high h = h .high

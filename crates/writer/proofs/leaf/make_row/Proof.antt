@@ -1,0 +1,14 @@
+use Rattle.writer.proofs.LeafLaws.{row-yes, row-no}
+use borrow.Author.Needs.{needs}
+use Rattle.writer.proofs.leaf.make_row.Statement.{statement}
+use Rattle.writer.proofs.leaf.make_row.Tie as tie
+
+pub make-row-spec : {M : Type 1} → statement M
+make-row-spec =
+    tie.close (tie.spec
+    (λ c. search needs)  -- cast-is-next
+    (λ c κs. search needs)  -- is-next-requires
+    (λ c κs. search needs)  -- make-element-requires
+    (λ c. search needs)  -- same-length
+    (λ c. search (row-yes, needs))  -- returns
+    (λ c. search (row-no, needs)))  -- returns-2

@@ -1,0 +1,13 @@
+use Rattle.writer.proofs.MakeCommonLaws.{due-here, due-absent}
+use borrow.Author.Needs.{needs}
+use Rattle.writer.proofs.make_common.make_due_rules.Statement.{statement}
+use Rattle.writer.proofs.make_common.make_due_rules.Tie as tie
+
+pub make-due-rules-spec : {M : Type 1} → statement M
+make-due-rules-spec =
+    tie.close (tie.spec
+    (λ c κs. search needs)  -- is-next-requires
+    (λ c κs. search needs)  -- make-rules-requires
+    (λ c. search needs)  -- same-length
+    (λ c. search (due-here, needs))  -- returns
+    (λ c. search (due-absent, needs)))  -- returns-2

@@ -1,0 +1,16 @@
+use Rattle.writer.proofs.MakeObjectLaws.{object-made, object-onward}
+use borrow.Author.Needs.{needs}
+use Rattle.writer.proofs.make_object.make_object.Statement.{statement}
+use Rattle.writer.proofs.make_object.make_object.Tie as tie
+
+pub make-object-spec : {M : Type 1} → statement M
+make-object-spec =
+    tie.close (tie.spec
+    (λ c κs. search needs)  -- record-end-requires
+    (λ c. search needs)  -- add-byte-at
+    (λ c κs. search needs)  -- byte-at-requires
+    (λ c. search needs)  -- add-byte-at-2
+    (λ c κs. search needs)  -- byte-at-requires-2
+    (λ c κs. search needs)  -- object-element-requires
+    (λ c. search needs)  -- same-length
+    (λ c. search (object-made, object-onward, needs)))  -- returns

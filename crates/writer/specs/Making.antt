@@ -1,0 +1,92 @@
+-- What the code does of the renderer.
+use Prim.Native.Nat.{ℕ, _+_, _-_, _%_, _≤_, _<_}
+use mathlib.Core.Path.{_≡_}
+use mathlib.Core.List.{List, [], _∷_, _++_}
+use mathlib.Core.Bool.{Bool, true, false, _&&_}
+use lib.ListN.{length, getD, take, drop}
+use lib.Seq.{slice}
+use lib.Dec.{leb, eqb}
+use Rattle.elements.specs.Length.{wrap}
+use Rattle.elements.specs.Put.{Put}
+use Rattle.writer.specs.declared.made.Made.{Made}
+use Rattle.writer.specs.declared.made.Made.the-variants.{Took, Long}
+use Rattle.rules.specs.Reading.{Rec, rec}
+use Rattle.rules.specs.Files.{two, namesOf}
+use Rattle.rules.specs.Book.{recordsFrom, Ends}
+use Rattle.rules.specs.Render.{Rendered, gives, within, rInside, rOd, rDirectory, rDirectories, framing, used}
+
+-- from i to n record by record
+pub data Walk (b : List ℕ) : ℕ → ℕ → List Rec → Type 0 where
+  there : {n : ℕ} → Walk b n n []
+  onto : {i e n : ℕ} {rs : List Rec} → Ends b i e → Walk b e n rs → Walk b i n (rec (two b (i + 2)) (slice (i + 4) e b) ∷ rs)
+
+-- n is reached from i record by record
+pub record Steps (b : List ℕ) (i n : ℕ) : Type 0 where
+  pub taken : List Rec
+  pub walk : Walk b i n taken
+  pub is : recordsFrom b i ≡ taken ++ recordsFrom b n
+  pub low : i ≤ n
+  pub high : n ≤ length b
+
+-- the code's answer is the definition's: its bytes are put from o on into the lent slice, which was a and is c, and fit; the records that are left are those from n on; or they do not fit
+pub data Makes (b a c : List ℕ) (i o : ℕ) : Rendered → Made → Type 0 where
+  makes : {w : Rendered} {n q : ℕ} → w .left ≡ recordsFrom b n → Put a c o q (w .bytes) → Steps b i n → q ≤ length a → Makes b a c i o w (Took n q)
+  breaks : {w : Rendered} → length a < o + length (w .bytes) → length c ≡ length a → Makes b a c i o w Long
+
+-- what a part asks of its places
+abbrev pub Making : List ℕ → ℕ → List ℕ → ℕ → Type 0
+Making b i a o = (i ≤ length b) × (length b ≤ 131072) × (o ≤ length a) × (length a ≤ 32768)
+
+-- a part takes at least one record
+pub record Onward (b : List ℕ) (i : ℕ) (r : Made) : Type 0 where
+  pub is : (n q : ℕ) → r ≡ Took n q → length (recordsFrom b n) < length (recordsFrom b i)
+
+-- what stands from `from` to `to` in c stands `by` places further in d
+pub record Moved (c d : List ℕ) (from to by : ℕ) : Type 0 where
+  pub is : d ≡ take (from + by) c ++ slice from to c ++ drop (to + by) c
+
+-- an element of x, from o on, fits, or does not; the records from n on are left
+pub data Wraps (a d : List ℕ) (o tag : ℕ) (x : List ℕ) (n : ℕ) : Made → Type 0 where
+  wraps : {p : ℕ} → Put a d o p (wrap tag x) → p ≤ length a → Wraps a d o tag x n (Took n p)
+  over : length a < o + length (wrap tag x) → length d ≡ length a → Wraps a d o tag x n Long
+
+-- c holds contents from o + 2 to q; the header goes in front of them
+pub record Closed (c d : List ℕ) (o tag n q : ℕ) (r : Made) : Type 0 where
+  pub is : (a x : List ℕ) → Put a c (o + 2) q x → q ≤ length a → Wraps a d o tag x n r
+
+-- an entry's own bytes start at r
+pub record Tail (i e r : ℕ) : Type 0 where
+  pub is : (b : List ℕ) → e ≤ length b → drop 2 (slice (i + 4) e b) ≡ slice r e b
+
+-- an entry with a tag of ours, whose record reaches from i to e
+pub record KnownMade (b a c : List ℕ) (i e o : ℕ) (r : Made) : Type 0 where
+  pub is : Makes b a c i o (within (getD (slice (i + 4) e b) 0 0) rInside (recordsFrom b i)) r
+
+-- contents stand from o + 4 to q in c; a dump record's length and kind go in front of them
+pub record Fronted (c d : List ℕ) (o kind q : ℕ) : Type 0 where
+  pub is : (a x : List ℕ) → Put a c (o + 4) q x → q ≤ length a → Put a d o q (framing kind x)
+
+-- x from o on fits, or does not
+pub data Fitted (a c : List ℕ) (o : ℕ) (x : List ℕ) : Made → Type 0 where
+  fits : {n q : ℕ} → Put a c o q x → q ≤ length a → Fitted a c o x (Took n q)
+  beyond : length a < o + length x → length c ≡ length a → Fitted a c o x Long
+
+-- the record at j, which ends at e, names a path
+abbrev pub names : List ℕ → ℕ → ℕ → Bool
+names b j e = eqb (two b (j + 2)) 0x0110 && (leb 2 (e - (j + 4)) && eqb (getD (slice (j + 4) e b) 1 0) 0)
+
+-- a directory file for the record at j, which ends at e and names a path; its objects' records are those from i on
+pub record FileMade (b a c : List ℕ) (j e i o : ℕ) (r : Made) : Type 0 where
+  pub is : Makes b a c i o (gives (framing 3 (length (slice (j + 6) e b) % 256 ∷ (slice (j + 6) e b ++ rDirectory (recordsFrom b i) .bytes))) (rDirectory (recordsFrom b i) .left)) r
+
+-- the directory files for the records from j to `end`
+pub record FilesMade (b a c : List ℕ) (j end i o : ℕ) (r : Made) : Type 0 where
+  pub is : (rs : List Rec) → Walk b j end rs → Fitted a c o (rDirectories (namesOf rs) (recordsFrom b i)) r
+
+-- a path behind its length
+pub record Named (b a c : List ℕ) (p e o r : ℕ) : Type 0 where
+  pub is : Put a c o r (length (slice p e b) % 256 ∷ slice p e b)
+
+-- EF.OD's record and the files that it names, from the records from i on
+pub record TwoMade (b a c : List ℕ) (i o : ℕ) (r : Made) : Type 0 where
+  pub is : Fitted a c o (let w = rOd (recordsFrom b i) in framing 2 (w .bytes) ++ rDirectories (namesOf (used (recordsFrom b i) (w .left))) (w .left)) r

@@ -1,0 +1,206 @@
+use crate::made::Made;
+use crate::made::closed;
+use elements::Form;
+use elements::put_boolean;
+use elements::put_flags;
+use elements::put_integer;
+use elements::put_part;
+use rules::Row;
+use rules::Sequence;
+use rules::is_next;
+use rules::of_two;
+use rules::record_end;
+use rules::row_of;
+ghost use mathlib.Core.Path.{_≡_};
+ghost use Prim.Native.Nat.{_+_, _*_, _^_, _≤_, _<_};
+ghost use lib.ListN.{length, getD, drop, replicate};
+ghost use lib.Seq.{slice};
+ghost use Rattle.elements.specs.Put.{Put};
+ghost use Rattle.rules.specs.Reading.{count, number};
+ghost use Rattle.rules.specs.Tables.{rowsOf};
+ghost use Rattle.rules.specs.Render.{gives, within, from, plain, unvalue, rRow, rRows, rKeep, rFill};
+ghost use Rattle.rules.specs.Book.{recordsFrom};
+ghost use Rattle.writer.specs.Making.{Making, Makes};
+
+// The byte at p of a payload that ends at e; 0 if it has none there.
+pub fn first_byte(b: &[u8], p: usize, e: usize) -> u8
+    requires { ⌜ e ≤ length (now b) ⌝ }
+    ensures { λ r. ⌜ r ≡ getD (slice p e (now (b .entry))) 0 0 ⌝ }
+{
+    if p < e {
+        return b[p];
+    }
+    0
+}
+
+// The number in two bytes of a payload.
+pub fn count_at(b: &[u8], p: usize, e: usize) -> usize
+    requires { ⌜ (e ≤ length (now b)) × (p < 2 ^ 62) ⌝ }
+    ensures { λ r. ⌜ r ≡ count (slice p e (now (b .entry))) ⌝ }
+{
+    of_two(first_byte(b, p, e), first_byte(b, p + 1, e))
+}
+
+// A number in four bytes, the low one first.
+fn of_four(x: u8, y: u8, z: u8, w: u8) -> u32
+    ensures { λ r. ⌜ r ≡ x + 256 * y + 65536 * z + 16777216 * w ⌝ }
+{
+    x as u32 + 256 * (y as u32) + 65536 * (z as u32) + 16777216 * (w as u32)
+}
+
+// The number in four bytes of a payload.
+fn number_at(b: &[u8], p: usize, e: usize) -> u32
+    requires { ⌜ (e ≤ length (now b)) × (p < 2 ^ 62) ⌝ }
+    ensures { λ r. ⌜ r ≡ number (slice p e (now (b .entry))) ⌝ }
+{
+    of_four(
+        first_byte(b, p, e),
+        first_byte(b, p + 1, e),
+        first_byte(b, p + 2, e),
+        first_byte(b, p + 3, e),
+    )
+}
+
+// A number in one byte.
+fn of_one(x: u8) -> u32
+    ensures { λ r. ⌜ r ≡ x ⌝ }
+{
+    x as u32
+}
+
+// The contents that a payload from p to e tells, by its form.
+fn put_value(b: &[u8], p: usize, e: usize, form: Form, out: &mut [u8], o: usize) -> usize
+    requires { ⌜ (p ≤ e) × (e ≤ length (now b)) × (length (now b) ≤ 131072) × (o ≤ 32768) ⌝ }
+    ensures { λ r. ⌜ Put (now (out .entry)) (now (out .exit)) o r (unvalue form (slice p e (now (b .entry)))) ⌝ }
+{
+    match form {
+        Form::Integer => put_integer(out, o, false, number_at(b, p, e)),
+        Form::Bits => put_flags(out, o, number_at(b, p, e)),
+        Form::Boolean => put_boolean(out, o, of_one(first_byte(b, p, e))),
+        Form::Octets => put_part(out, o, b, p, e),
+        Form::Text => put_part(out, o, b, p, e),
+        Form::Time => put_part(out, o, b, p, e),
+        Form::Null => put_part(out, o, b, p, e),
+    }
+}
+
+// The contents that the next record tells, by their form.
+fn make_value(b: &[u8], i: usize, form: Form, out: &mut [u8], o: usize) -> Made
+    requires { ⌜ Making (now b) i (now out) o ⌝ }
+    ensures { λ r. ⌜ Makes (now (b .entry)) (now (out .entry)) (now (out .exit)) i o (from (λ k p rs. gives (unvalue form p) rs) (recordsFrom (now (b .entry)) i)) r ⌝ }
+{
+    if b.len() < i + 4 {
+        return Made::Took(i, o);
+    }
+    let e = record_end(b, i);
+    let q = put_value(b, i + 4, e, form, out, o);
+    if out.len() < q {
+        return Made::Long;
+    }
+    Made::Took(e, q)
+}
+
+// The next record's payload as it is.
+pub fn make_plain(b: &[u8], i: usize, out: &mut [u8], o: usize) -> Made
+    requires { ⌜ Making (now b) i (now out) o ⌝ }
+    ensures { λ r. ⌜ Makes (now (b .entry)) (now (out .entry)) (now (out .exit)) i o (plain (recordsFrom (now (b .entry)) i)) r ⌝ }
+{
+    make_value(b, i, Form::Octets, out, o)
+}
+
+// The same if the next record is of this kind: a rest, a sealed part.
+pub fn make_keep(b: &[u8], i: usize, kind: usize, out: &mut [u8], o: usize) -> Made
+    requires { ⌜ Making (now b) i (now out) o ⌝ }
+    ensures { λ r. ⌜ Makes (now (b .entry)) (now (out .entry)) (now (out .exit)) i o (rKeep kind (recordsFrom (now (b .entry)) i)) r ⌝ }
+{
+    if is_next(b, i, kind) {
+        return make_plain(b, i, out, o);
+    }
+    Made::Took(i, o)
+}
+
+// So many bytes, all the same.
+fn put_same(out: &mut [u8], o: usize, x: u8, n: usize)
+    requires { ⌜ (o + n ≤ length (now out)) × (length (now out) ≤ 32768) ⌝ }
+    ensures { λ r. ⌜ Put (now (out .entry)) (now (out .exit)) o (o + n) (replicate n x) ⌝ }
+{
+    let mut k = 0;
+    while k < n {
+        out[o + k] = x;
+        k += 1;
+    }
+}
+
+// The fill that the next record tells: its byte, and how many.
+fn make_same(b: &[u8], i: usize, out: &mut [u8], o: usize) -> Made
+    requires { ⌜ (i + 4 ≤ length (now b)) × Making (now b) i (now out) o ⌝ }
+    ensures { λ r. ⌜ Makes (now (b .entry)) (now (out .entry)) (now (out .exit)) i o (from (λ k p rs. gives (replicate (count (drop 1 p)) (getD p 0 0)) rs) (recordsFrom (now (b .entry)) i)) r ⌝ }
+{
+    let e = record_end(b, i);
+    let n = count_at(b, i + 5, e);
+    if out.len() - o < n {
+        return Made::Long;
+    }
+    put_same(out, o, first_byte(b, i + 4, e), n);
+    Made::Took(e, o + n)
+}
+
+// The fill that the next record tells, if it is of this kind.
+pub fn make_fill(b: &[u8], i: usize, kind: usize, out: &mut [u8], o: usize) -> Made
+    requires { ⌜ Making (now b) i (now out) o ⌝ }
+    ensures { λ r. ⌜ Makes (now (b .entry)) (now (out .entry)) (now (out .exit)) i o (rFill kind (recordsFrom (now (b .entry)) i)) r ⌝ }
+{
+    if is_next(b, i, kind) {
+        return make_same(b, i, out, o);
+    }
+    Made::Took(i, o)
+}
+
+// An element whose contents the next record tells, by their form.
+fn make_element(b: &[u8], i: usize, tag: u8, form: Form, out: &mut [u8], o: usize) -> Made
+    requires { ⌜ Making (now b) i (now out) o ⌝ }
+    ensures { λ r. ⌜ Makes (now (b .entry)) (now (out .entry)) (now (out .exit)) i o (within tag (from (λ k p rs. gives (unvalue form p) rs)) (recordsFrom (now (b .entry)) i)) r ⌝ }
+{
+    if out.len() < o + 2 {
+        return Made::Long;
+    }
+    match make_value(b, i, form, out, o + 2) {
+        Made::Long => Made::Long,
+        Made::Took(n, q) => closed(out, o, tag, n, q),
+    }
+}
+
+// The component of a row, if the next record is of its kind.
+fn make_row(b: &[u8], i: usize, r: Row, out: &mut [u8], o: usize) -> Made
+    requires { ⌜ Making (now b) i (now out) o ⌝ }
+    ensures { λ w. ⌜ Makes (now (b .entry)) (now (out .entry)) (now (out .exit)) i o (rRow r (recordsFrom (now (b .entry)) i)) w ⌝ }
+{
+    if is_next(b, i, r.kind as usize) {
+        let form = r.form;
+        return make_element(b, i, r.tag, form, out, o);
+    }
+    Made::Took(i, o)
+}
+
+// The components of a sequence, of which there are so many.
+pub fn make_rows(b: &[u8], i: usize, q: Sequence, last: usize, out: &mut [u8], o: usize) -> Made
+    requires { ⌜ (last ≡ length (rowsOf q)) × Making (now b) i (now out) o ⌝ }
+    ensures { λ r. ⌜ Makes (now (b .entry)) (now (out .entry)) (now (out .exit)) i o (rRows (rowsOf q) (recordsFrom (now (b .entry)) i)) r ⌝ }
+{
+    let mut k = 0;
+    let mut n = i;
+    let mut p = o;
+    while k < last {
+        match make_row(b, n, row_of(q, k), out, p) {
+            Made::Long => {
+                return Made::Long;
+            }
+            Made::Took(m, t) => {
+                n = m;
+                p = t;
+            }
+        }
+        k += 1;
+    }
+    Made::Took(n, p)
+}

@@ -1,0 +1,150 @@
+use crate::made::Made;
+use crate::make_entry::make_cia;
+use crate::make_entry::make_directory;
+use crate::make_entry::make_od;
+use elements::put_byte;
+use elements::put_le16;
+use elements::put_part;
+use rules::byte_at;
+use rules::record_end;
+use rules::word;
+ghost use mathlib.Core.Path.{_≡_};
+ghost use Prim.Native.Nat.{_+_, _≤_};
+ghost use lib.ListN.{length};
+ghost use Rattle.rules.specs.Book.{records, recordsFrom, Ends};
+ghost use Rattle.rules.specs.Render.{gives, rCia, rOd, framing, render};
+ghost use Rattle.writer.specs.Making.{Steps, Making, Makes, Fronted, Fitted, Named, FileMade, FilesMade, TwoMade, names};
+
+// A dump record's length and kind go in front of contents that stand from o + 4 to q.
+fn put_front(out: &mut [u8], o: usize, kind: u16, q: usize)
+    requires { ⌜ (o + 4 ≤ q) × (q ≤ length (now out)) × (length (now out) ≤ 32768) ⌝ }
+    ensures { λ r. ⌜ Fronted (now (out .entry)) (now (out .exit)) o kind q ⌝ }
+{
+    let p = put_le16(out, o, (q - (o + 4) + 2) as u16);
+    put_le16(out, p, kind);
+}
+
+// CIAInfo's record.
+fn make_first(b: &[u8], i: usize, out: &mut [u8], o: usize) -> Made
+    requires { ⌜ Making (now b) i (now out) o ⌝ }
+    ensures { λ r. ⌜ Makes (now (b .entry)) (now (out .entry)) (now (out .exit)) i o (gives (framing 1 (rCia (recordsFrom (now (b .entry)) i) .bytes)) (rCia (recordsFrom (now (b .entry)) i) .left)) r ⌝ }
+{
+    if out.len() < o + 4 {
+        return Made::Long;
+    }
+    match make_cia(b, i, out, o + 4) {
+        Made::Long => Made::Long,
+        Made::Took(n, q) => {
+            put_front(out, o, 1, q);
+            Made::Took(n, q)
+        }
+    }
+}
+
+// EF.OD's record.
+fn make_second(b: &[u8], i: usize, out: &mut [u8], o: usize) -> Made
+    requires { ⌜ Making (now b) i (now out) o ⌝ }
+    ensures { λ r. ⌜ Makes (now (b .entry)) (now (out .entry)) (now (out .exit)) i o (gives (framing 2 (rOd (recordsFrom (now (b .entry)) i) .bytes)) (rOd (recordsFrom (now (b .entry)) i) .left)) r ⌝ }
+{
+    if out.len() < o + 4 {
+        return Made::Long;
+    }
+    match make_od(b, i, out, o + 4) {
+        Made::Long => Made::Long,
+        Made::Took(n, q) => {
+            put_front(out, o, 2, q);
+            Made::Took(n, q)
+        }
+    }
+}
+
+// Whether the record at j, which ends at e, names a path.
+fn is_name(b: &[u8], j: usize, e: usize) -> bool
+    requires { ⌜ Ends (now b) j e ⌝ }
+    ensures { λ r. ⌜ r ≡ names (now (b .entry)) j e ⌝ }
+{
+    if word(b, j + 2) != 0x0110 {
+        return false;
+    }
+    if e - (j + 4) < 2 {
+        return false;
+    }
+    byte_at(b, j + 4, e, 1) == 0
+}
+
+// A path behind its length.
+fn put_path(out: &mut [u8], o: usize, b: &[u8], p: usize, e: usize) -> usize
+    requires { ⌜ (p ≤ e) × (e ≤ length (now b)) × (length (now b) ≤ 131072) × (o ≤ 65536) ⌝ }
+    ensures { λ r. ⌜ Named (now (b .entry)) (now (out .entry)) (now (out .exit)) p e o r ⌝ }
+{
+    let n = put_byte(out, o, ((e - p) % 256) as u8);
+    put_part(out, n, b, p, e)
+}
+
+// A directory file for the record at j, which ends at e and names a path; its objects' records are those from i on.
+fn make_file(b: &[u8], j: usize, e: usize, i: usize, out: &mut [u8], o: usize) -> Made
+    requires { ⌜ (j + 6 ≤ e) × (e ≤ length (now b)) × Making (now b) i (now out) o ⌝ }
+    ensures { λ r. ⌜ FileMade (now (b .entry)) (now (out .entry)) (now (out .exit)) j e i o r ⌝ }
+{
+    let p = put_path(out, o + 4, b, j + 6, e);
+    if out.len() < p {
+        return Made::Long;
+    }
+    match make_directory(b, i, out, p) {
+        Made::Long => Made::Long,
+        Made::Took(n, q) => {
+            put_front(out, o, 3, q);
+            Made::Took(n, q)
+        }
+    }
+}
+
+// The directory files for the records of EF.OD from j to end, from the records that start at i.
+fn make_files(b: &[u8], j: usize, end: usize, i: usize, out: &mut [u8], o: usize) -> Made
+    requires { ⌜ Steps (now b) j end × Making (now b) i (now out) o ⌝ }
+    ensures { λ r. ⌜ FilesMade (now (b .entry)) (now (out .entry)) (now (out .exit)) j end i o r ⌝ }
+{
+    let mut k = j;
+    let mut n = i;
+    let mut p = o;
+    while k < end {
+        let e = record_end(b, k);
+        if is_name(b, k, e) {
+            match make_file(b, k, e, n, out, p) {
+                Made::Long => {
+                    return Made::Long;
+                }
+                Made::Took(m, q) => {
+                    n = m;
+                    p = q;
+                    k = e;
+                    continue;
+                }
+            }
+        }
+        k = e;
+    }
+    Made::Took(n, p)
+}
+
+// EF.OD's record and the files that it names.
+fn make_rest(b: &[u8], i: usize, out: &mut [u8], o: usize) -> Made
+    requires { ⌜ Making (now b) i (now out) o ⌝ }
+    ensures { λ r. ⌜ TwoMade (now (b .entry)) (now (out .entry)) (now (out .exit)) i o r ⌝ }
+{
+    match make_second(b, i, out, o) {
+        Made::Long => Made::Long,
+        Made::Took(n, q) => make_files(b, i, n, n, out, q),
+    }
+}
+
+// The one dump that could have this book.
+pub fn render_into(b: &[u8], out: &mut [u8]) -> Made
+    requires { ⌜ (length (now b) ≤ 131072) × (length (now out) ≤ 32768) ⌝ }
+    ensures { λ r. ⌜ Fitted (now (out .entry)) (now (out .exit)) 0 (render (records (now (b .entry)))) r ⌝ }
+{
+    match make_first(b, 0, out, 0) {
+        Made::Long => Made::Long,
+        Made::Took(n, q) => make_rest(b, n, out, q),
+    }
+}
