@@ -4,9 +4,11 @@ import sys
 import zlib
 from dumps import read
 from elements import TAGS, Refused, contents, element, header, length, sealed
+from links import MISSING, field, links
 from writes import write
 
 SHORT, MOST_ROOM, MOST_BYTES = 600, 131072, 139999
+MOST_NUMBERS, LISTER_NUMBERS, LISTER_BYTES = 32768, 16384, 65536
 
 
 class Bad(Exception):
@@ -51,6 +53,13 @@ def number(text):
     return int(text)
 
 
+def hexadecimal(text):
+    """The hex number that is all of a text, of 32 bits."""
+    if not re.fullmatch('[0-9A-Fa-f]+', text) or int(text, 16) > 0xFFFFFFFF:
+        raise Bad
+    return int(text, 16)
+
+
 def served(what, made, refusal, room):
     """What a service says that made these bytes, or gave a refusal, and was lent so much room."""
     if made is not None and len(made) > room:
@@ -93,20 +102,61 @@ def spread(step, s):
     return 'changed %d, refused %d, read back %d' % (sum(told), *told)
 
 
+def listing(room, book):
+    """A book through the list service, with room for so many numbers."""
+    try:
+        rows = links(book)
+        if 4 * len(rows) > room:
+            raise Refused(14, 4 * len(rows))
+    except Refused as r:
+        return 'refused %d at %d, output unchanged' % r.args
+    told = ['; %d %d %d ' % row[:3] + ('-' if row[3] == MISSING else str(row[3])) for row in rows]
+    return 'accepted %d' % (4 * len(rows)) + ''.join(told) + ', past it unchanged'
+
+
+def read_and_list(s):
+    """A dump into its book and that into its links, with the room that the lister lends."""
+    answer = read(s)
+    if answer[0] == 'refused':
+        return 'refused %d at %d' % answer[1:]
+    if len(answer[1]) > LISTER_BYTES:
+        return 'refused 14 at %d' % len(answer[1])
+    return listing(LISTER_NUMBERS, answer[1])
+
+
+def handing(number, kind, book):
+    """A field of a book."""
+    try:
+        at, payload = field(book, number, kind)
+    except Refused as r:
+        return 'refused %d at %d []' % r.args
+    return 'at %d length %d [%s]' % (at, len(payload), payload.hex())
+
+
+def read_and_hand(number, kind, s):
+    """A dump into its book, and a field of that."""
+    answer = read(s)
+    return 'refused %d at %d' % answer[1:] if answer[0] == 'refused' else handing(number, kind, answer[1])
+
+
 def answer(word, rest):
     if word == 'length':
         return length(number(rest)).hex()
+    if word in ('field', 'fieldbook'):
+        one, _, rest = rest.partition(' ')
+        kind, _, rest = rest.partition(' ')
+        return (read_and_hand if word == 'field' else handing)(hexadecimal(one), hexadecimal(kind), decoded(rest, MOST_BYTES))
     room = None
-    if word in ('room', 'read', 'write', 'spread'):
+    if word in ('room', 'read', 'write', 'spread', 'list'):
         room, _, rest = rest.partition(' ')
         room = number(room)
-    if word in ('read', 'write', 'spread'):
+    if word in ('read', 'write', 'spread', 'list'):
         s = decoded(rest, MOST_BYTES)
-        if room > MOST_ROOM if word != 'spread' else room == 0:
+        if room == 0 if word == 'spread' else room > (MOST_NUMBERS if word == 'list' else MOST_ROOM):
             raise Bad
-        return {'read': reading, 'write': writing, 'spread': spread}[word](room, s)
-    if word == 'back':
-        return returned(decoded(rest, 69999))
+        return {'read': reading, 'write': writing, 'spread': spread, 'list': listing}[word](room, s)
+    if word in ('back', 'links'):
+        return (returned if word == 'back' else read_and_list)(decoded(rest, 69999))
     s = decoded(rest, 69999 if room is None else 15)
     if word == 'room':
         word = 'bits'

@@ -6,6 +6,7 @@ import sys
 from cases import printed
 from dumps import named_file, read, record
 from elements import TAGS, length
+from links import links
 
 SHARP = [0x00, 0x01, 0x1F, 0x30, 0x7F, 0x80, 0x81, 0x82, 0x8F, 0x90, 0x9F, 0xA0, 0xBF, 0xC2, 0xE0, 0xED, 0xF0, 0xF4, 0xFF]
 some = random.choice
@@ -63,18 +64,26 @@ def line():
     return (word + ' ' + s.hex().upper()).rstrip()
 
 
+PROGRAM = os.path.join(os.path.dirname(os.path.abspath(__file__)), '..', 'target', 'bin', 'cases')
+
+
+def expect_same(seed, text):
+    """Stops at the first line of a text of cases that the program answers otherwise; what was printed."""
+    got = subprocess.run([PROGRAM], input=text.encode(), capture_output=True, check=True).stdout.decode()
+    want = printed(text)
+    if got != want:
+        sys.exit(next('seed %d: %s, and not %s' % (seed, g, w) for g, w in zip(got.split('\n'), want.split('\n')) if g != w))
+    return got
+
+
 def compare(rounds, line):
-    program = os.path.join(os.path.dirname(os.path.abspath(__file__)), '..', 'target', 'bin', 'cases')
     count = 0
     for seed in range(rounds):
         random.seed(seed)
         text = ''
         while len(text) < 60000:
             text += line() + '\n'
-        got = subprocess.run([program], input=text.encode(), capture_output=True, check=True).stdout.decode()
-        want = printed(text)
-        if got != want:
-            sys.exit(next('seed %d: %s, and not %s' % (seed, g, w) for g, w in zip(got.split('\n'), want.split('\n')) if g != w))
+        expect_same(seed, text)
         count += text.count('\n')
     print('%d cases, no difference' % count)
 
@@ -85,15 +94,19 @@ def compare_elements(rounds):
 
 # ---- dumps
 
-def condition(deep):
+def loose_identifier():
+    return loose(random.randrange(3))
+
+
+def condition(deep, identifier=loose_identifier, counts=(2, 2, 3, 1)):
     if deep == 0 or chance(.25):
         return tlv(0x05)
     if chance(.25):
-        return tlv(0x04, loose(random.randrange(3)))
+        return tlv(0x04, identifier())
     if chance(.15):
-        return tlv(0xA0, condition(deep - 1))
+        return tlv(0xA0, condition(deep - 1, identifier, counts))
     if chance(.8):
-        return tlv(some([0xA1, 0xA2]), *[condition(deep - 1) for _ in range(some([2, 2, 3, 1]))])
+        return tlv(some([0xA1, 0xA2]), *[condition(deep - 1, identifier, counts) for _ in range(some(counts))])
     return tlv(0x86, b'\x01\x02')
 
 
@@ -179,12 +192,12 @@ def good_object(tag):
             return o
 
 
-def rich():
+def rich(make=good_object, tags=range(0xA0, 0xAA)):
     """Up to eight entries, of objects that are accepted one by one; two of them may still have equal own authIds."""
     entries, files = [], []
     for n in range(random.randrange(1, 9)):
-        tag = random.randrange(0xA0, 0xAA)
-        objects = [good_object(tag) for _ in range(random.randrange(4))] if tag < 0xA9 else [tlv(0x05)]
+        tag = some(tags)
+        objects = [make(tag) for _ in range(random.randrange(4))] if tag < 0xA9 else [tlv(0x05)]
         if tag == 0xA9:
             entries.append(tlv(tag, *objects))
         elif chance(.5):
@@ -264,6 +277,76 @@ def compare_writes(rounds):
     compare(rounds, writing)
 
 
+# ---- links
+
+OFTEN, SELDOM = [b'', b'\x01', b'\x45'], [b'\x00', b'\x02', b'\x01\x02', b'\x45' * 255]
+LINKING = [0xA0, 0xA0, 0xA0, 0xA1, 0xA2, 0xA3, 0xA4, 0xA5, 0xA6, 0xA4, 0xA7, 0xA8, 0xA8, 0xA8, 0xA9]
+
+
+def identifier():
+    return some(OFTEN * 4 + SELDOM)
+
+
+def linking_common():
+    rules = [tlv(0x30, tlv(0x03, b'\x00'), condition(some([1, 2, 3, 4, 7]), identifier, (2, 2, 3, 4))) for _ in range(some([1, 1, 2]))]
+    return tlv(0x30, maybe(.2, tlv(0x0C, b'A')), maybe(.6, tlv(0x04, identifier())), maybe(.5, tlv(0x30, *rules)))
+
+
+def linking_object(tag, own):
+    """An object of an entry with identifiers of a few, its type sealed or not; an authentication object takes the last of the own authIds that are left."""
+    if tag <= 0xA3:
+        kind, shown = tlv(0x04, identifier()) + tlv(0x03, b'\x00'), tlv(0x30, tlv(0x30, tlv(0x04)), tlv(0x02, b'\x00'))
+    elif tag <= 0xA6:
+        kind, shown = tlv(0x04, identifier()), tlv(0x30, some([tlv(0x05), tlv(0x30, tlv(0x04, b'\x01'))]))
+    elif tag == 0xA7:
+        kind, shown = maybe(.5, tlv(0x04, identifier())), tlv(0x05)
+    else:
+        kind = maybe(.8, tlv(0x04, own.pop() if own and chance(.97) else identifier()))
+        shown = tlv(0x30, tlv(0x03, b'\x00'), tlv(0x0A, b'\x01'), tlv(0x02, b'\x04'), tlv(0x02, b'\x08'))
+    sealed_type = chance(.5)
+    return tlv(0xA0 if sealed_type else 0x30, linking_common(), tlv(0x30, kind), tlv(0xA1, tlv(0x05) if sealed_type else shown))
+
+
+def linking_card():
+    own = random.sample(SELDOM, len(SELDOM)) + random.sample(OFTEN, len(OFTEN))
+    return rich(lambda tag: linking_object(tag, own), LINKING)
+
+
+def some_kind(book):
+    kinds = [kind for kind, _ in records_of(book)]
+    return some([some(kinds), some(kinds), some([0x123, 0x127, 0x130, 0x140, 0x150]), 0x120 + random.randrange(0x90), some([0, 0x120, 0x121, 0x1FF, 0x200, 0x10123, 2 ** 32 - 1])])
+
+
+def linking_lines(d):
+    """A dump through links and field; where it has a book, that too, whole and changed, with room that is enough or not."""
+    said = ['links ' + d.hex().upper()]
+    answer = read(d)
+    if answer[0] == 'refused':
+        return said + ['field 0 0123 ' + d.hex().upper()]
+    book = answer[1]
+    needed = 4 * len(links(book))
+    said += ['list %d %s' % (room, book.hex().upper()) for room in {needed, max(needed - 1, 0), needed + 1, random.randrange(needed + 9)}]
+    for _ in range(6):
+        number = some([0, 1, 2, random.randrange(12), random.randrange(12), some([127, 128, 2 ** 32 - 1])])
+        word, s = some([('field', d), ('fieldbook', book)])
+        said.append('%s %x %04X %s' % (word, number, some_kind(book), s.hex().upper()))
+    other = b''.join(record(*r) for r in other_records(records_of(book)))
+    for b in other, damaged(book):
+        said += ['list %d %s' % (some([0, needed, 400]), b.hex().upper()), 'fieldbook %x %04X %s' % (random.randrange(4), some_kind(book), b.hex().upper())]
+    return said
+
+
+def compare_links(cards, first=0):
+    rows, missing, refused = 0, 0, 0
+    for seed in range(first, first + cards):
+        random.seed(seed)
+        d = linking_card()
+        got = expect_same(seed, '\n'.join(linking_lines(damaged(d) if chance(.2) else d)) + '\n').split('\n')
+        told = got[0].split(' = ')[1].split(', ')[0].split('; ')
+        rows, missing, refused = rows + len(told) - 1, missing + sum(row.endswith('-') for row in told), refused + told[0].startswith('refused')
+    print('seeds %d to %d, no difference: %d dumps refused, the others with %d rows, %d of them missing' % (first, first + cards - 1, refused, rows, missing))
+
+
 def listed(b):
     return '(%s)' % ' ∷ '.join(['0x%02x' % x for x in b] + ['[]'])
 
@@ -285,4 +368,4 @@ def state_dumps(count):
 
 
 if __name__ == '__main__':
-    {'elements': compare_elements, 'reads': compare_reads, 'writes': compare_writes, 'dumps': state_dumps}[sys.argv[1]](int(sys.argv[2]))
+    {'elements': compare_elements, 'reads': compare_reads, 'writes': compare_writes, 'links': compare_links, 'dumps': state_dumps}[sys.argv[1]](*map(int, sys.argv[2:]))

@@ -1,17 +1,23 @@
-"""Compares each expectation that was worked out by hand (the comment above a `read`, `write` or `spread` line) with the answer in the same line of crates/cases/stdout."""
+"""Compares each expectation that was worked out by hand (the comment above a line of one of the services) with the answer in the same line of crates/cases/stdout."""
 import re
 import sys
 from collections import Counter
 
+REFUSAL, MADE, COUNTS, ROWS, PLACE = r'(\d+) at (\d+)', r'(book|dump) (\d+)', r'(changed \d+, refused \d+, read back \d+)', r'(accepted \d+(?:; \d+ \d+ \d+ (?:\d+|-))*)', r'(at \d+ length \d+ \[[0-9a-f]*\])'
+EXPECTED = re.compile('# (?:%s):' % '|'.join([REFUSAL, MADE, COUNTS, ROWS, PLACE]))
+LENT = ('read', 'write', 'list')
+
 told, wrong, want = Counter(), 0, None
 for line in open(sys.argv[1] if len(sys.argv) > 1 else 'crates/cases/stdout'):
-    expected = re.match(r'# (?:(\d+) at (\d+)|(book|dump) (\d+)|(changed \d+, refused \d+, read back \d+)):', line)
+    expected = EXPECTED.match(line)
+    case = re.match('(read|write|spread|list|links|field|fieldbook) ', line)
     if expected:
-        number, place, what, size, counts = expected.groups()
-        want = counts or (f'refused {number} at {place}, output unchanged' if number else f'{what} {size} ')
-    elif re.match('(read|write|spread) ', line) and want:
-        told[int(number) if number else what or 'spread'] += 1
-        if not line.split(' = ', 1)[1].startswith(want):
+        number, place, what, size, counts, rows, field = expected.groups()
+        want = f'refused {number} at {place}' if number else f'{what} {size}' if what else counts or rows or field
+    elif case and want:
+        told[int(number) if number else what or (counts and 'spread') or (rows and 'list') or 'field'] += 1
+        lent = ', output unchanged' if number and case[1] in LENT else ''
+        if not re.match(re.escape(want + lent) + r'(?!\d)', line.split(' = ', 1)[1]):
             wrong += 1
             print(f'by hand: {want}\n{line}')
         want = None

@@ -32,7 +32,7 @@ pub fn write(s: &[u8], lent: &mut [u8]) {
 }
 
 // Whether the two are the same bytes.
-fn same(s: &[u8], t: &[u8]) -> bool {
+pub fn same(s: &[u8], t: &[u8]) -> bool {
     if s.len() != t.len() {
         return false;
     }

@@ -46,6 +46,30 @@ pub fn decimal(s: &[u8], from: usize) -> Number
     Number { value: v, next: i }
 }
 
+// The hex number at `from`, below 2 to the 32nd, and what follows it; 0 that ends where it starts, if there is none.
+pub fn hexadecimal(s: &[u8], from: usize) -> Number
+    requires { ⌜ from ≤ length (now s) ⌝ }
+    ensures { λ r. ⌜ (from ≤ r .next) × (r .next ≤ length (now (s .entry))) × (r .value < 4294967296) ⌝ }
+{
+    let mut v = 0;
+    let mut i = from;
+    while i < s.len() {
+        let d = digit(s[i]);
+        if 15 < d {
+            return Number { value: v, next: i };
+        }
+        if 268435455 < v {
+            return Number {
+                value: 0,
+                next: from,
+            };
+        }
+        v = v * 16 + d as usize;
+        i += 1;
+    }
+    Number { value: v, next: i }
+}
+
 // How far a text is read: where it goes on, how many bytes there are, where those start that *N would repeat, and where those of the group that is
 // open; `fine` if it is a case up to here.
 struct Text {

@@ -1,8 +1,9 @@
-// Runs the cases of `stdin` through the element layer and the services read and write, and prints each answer beside its case.
+// Runs the cases of `stdin` through the element layer and the four services, and prints each answer beside its case.
 mod book;
 mod dump;
 mod element;
 mod hex;
+mod link;
 mod run;
 mod show;
 

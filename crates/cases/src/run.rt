@@ -2,7 +2,10 @@ use crate::book;
 use crate::dump;
 use crate::element;
 use crate::hex;
+use crate::hex::Number;
 use crate::hex::decimal;
+use crate::hex::hexadecimal;
+use crate::link;
 use crate::show;
 use elements::Form;
 use elements::header;
@@ -101,7 +104,7 @@ fn valued(line: &[u8], s: &[u8]) {
 // The tags that may not occur in CIAInfo's rest.
 const KEPT_OUT: [u8; 3] = [0x04, 0x0c, 0x80];
 
-// A case of elements, of one value, or of a dump and back.
+// A case of elements, of one value, of a dump and back, or of its links.
 fn case(line: &[u8], s: &[u8]) {
     if starts(line, b"header") {
         return show::head(header(s, 0, s.len()));
@@ -114,6 +117,9 @@ fn case(line: &[u8], s: &[u8]) {
     }
     if starts(line, b"back") {
         return book::back(s);
+    }
+    if starts(line, b"links") {
+        return link::list_dump(s);
     }
     valued(line, s);
 }
@@ -150,10 +156,22 @@ fn lend(line: &[u8], s: &[u8], room: usize) {
     dump::read(s, &mut space[..room]);
 }
 
+// A book, with room for so many numbers.
+fn lend_numbers(s: &[u8], room: usize) {
+    let mut space = [0u32; 32768];
+    if space.len() < room {
+        return bad();
+    }
+    link::list(s, &mut space[0..room]);
+}
+
 // A case of whole dumps and books, with its number.
 fn served(line: &[u8], s: &[u8], n: usize)
     requires { ⌜ n < 1000000 ⌝ }
 {
+    if starts(line, b"list") {
+        return lend_numbers(s, n);
+    }
     if starts(line, b"spread") {
         if n == 0 {
             return bad();
@@ -175,24 +193,69 @@ fn serving(line: &[u8], from: usize, number: usize)
     served(line, &buf[..n], number);
 }
 
+// Whether there is a number at `from`, and a space or the line's end behind it.
+fn stands(line: &[u8], from: usize, n: Number) -> bool {
+    let next = n.next;
+    if next == from {
+        return false;
+    }
+    if next < line.len() {
+        return line[next] == b' ';
+    }
+    true
+}
+
 // A case with a number before its bytes: a room or a step.
 fn sized(line: &[u8], from: usize)
     requires { ⌜ from ≤ length (now line) ⌝ }
 {
     let number = decimal(line, from);
-    let next = number.next;
-    if next == from {
+    if !stands(line, from, number) {
         return bad();
     }
-    if next < line.len() {
-        if line[next] != b' ' {
-            return bad();
-        }
-    }
     if starts(line, b"room") {
-        return roomy(line, next, number.value);
+        return roomy(line, number.next, number.value);
     }
-    serving(line, next, number.value);
+    serving(line, number.next, number.value);
+}
+
+// The bytes of a dump or book, and a field of it.
+fn fielding(line: &[u8], from: usize, object: u32, kind: u32) {
+    let mut buf = [0u8; 140000];
+    let n = hex::decode(line, from, &mut buf);
+    if n == buf.len() {
+        return bad();
+    }
+    if starts(line, b"fieldbook") {
+        return link::field(&buf[0..n], object, kind);
+    }
+    link::field_of_dump(&buf[0..n], object, kind);
+}
+
+// A field's kind at `from`, in hex, behind its object.
+fn of_kind(line: &[u8], from: usize, object: u32)
+    requires { ⌜ from ≤ length (now line) ⌝ }
+{
+    let kind = hexadecimal(line, from);
+    if !stands(line, from, kind) {
+        return bad();
+    }
+    fielding(line, kind.next, object, kind.value as u32);
+}
+
+// A case with an object and a kind before its bytes, both in hex: a field.
+fn fielded(line: &[u8], from: usize)
+    requires { ⌜ from ≤ length (now line) ⌝ }
+{
+    let object = hexadecimal(line, from);
+    let next = object.next;
+    if line.len() <= next {
+        return bad();
+    }
+    if !stands(line, from, object) {
+        return bad();
+    }
+    of_kind(line, next + 1, object.value as u32);
 }
 
 // Whether a number stands before the bytes.
@@ -206,7 +269,18 @@ fn numbered(line: &[u8]) -> bool {
     if starts(line, b"write") {
         return true;
     }
+    if starts(line, b"list") {
+        return true;
+    }
     starts(line, b"spread")
+}
+
+// Whether an object and a kind stand before the bytes.
+fn is_field(line: &[u8]) -> bool {
+    if starts(line, b"field") {
+        return true;
+    }
+    starts(line, b"fieldbook")
 }
 
 // A line as it is, and for a case the answer.
@@ -225,6 +299,9 @@ fn one(line: &[u8]) {
     }
     if numbered(line) {
         return sized(line, from);
+    }
+    if is_field(line) {
+        return fielded(line, from);
     }
     decoded(line, from);
 }

@@ -1,8 +1,10 @@
 -- What the services answer, and what they leave in the lent slice.
-use Prim.Native.Nat.{ℕ}
+use Prim.Native.Nat.{ℕ, _≤_}
 use mathlib.Core.Path.{_≡_, sym, ap, _∙_}
+use mathlib.Core.Bool.{Bool, true, false}
 use mathlib.Core.List.{List, _++_}
-use lib.ListN.{length, drop}
+use native.Mathlib.Omega.{arith}
+use lib.ListN.{length, drop, length-append}
 use lib.Dec.{leb}
 use Rattle.elements.specs.declared.fault.Fault.the-variants.{NoRoom, NoDump}
 use Rattle.elements.specs.Choice.{choose}
@@ -58,3 +60,24 @@ one-read h g = let e = h .is ∙ sym (g .is) in (ap (λ (x : Served). x .answer)
 
 pub one-write : {b a c e : List ℕ} {q r : Outcome} → WriteTold b a c q → WriteTold b a e r → (q ≡ r) × (c ≡ e)
 one-write h g = let e = h .is ∙ sym (g .is) in (ap (λ (x : Served). x .answer) e, ap (λ (x : Served). x .lent) e)
+
+-- what was accepted has room
+pub giving-fits : (bs a : List ℕ) {b : List ℕ} {n : ℕ} → served (Accepted n) b ≡ giving bs a → n ≤ length b
+unfolding giving
+giving-fits bs a {b} {n} = go (leb (length bs) (length a))
+  where
+    go : (t : Bool) → served (Accepted n) b ≡ choose t (λ _. served (Accepted (length bs)) (bs ++ drop (length bs) a)) (λ _. served (Refused NoRoom (length bs)) a) → n ≤ length b
+    go true e =
+        let q : Accepted n ≡ Accepted (length bs) = ap (λ (x : Served). x .answer) e in
+        let x : n ≡ length bs = cc in
+        let y : b ≡ bs ++ drop (length bs) a = ap (λ (x : Served). x .lent) e in
+        rw y (omega (arith, length-append bs (drop (length bs) a)))
+    go false e = let q : Accepted n ≡ Refused NoRoom (length bs) = ap (λ (x : Served). x .answer) e in absurd (let z : _≡_ {A = ℕ} 0 1 = cc in omega arith)
+
+pub read-fits : {s a b : List ℕ} {r : Outcome} {n : ℕ} → ReadTold s a b r → r ≡ Accepted n → n ≤ length b
+unfolding reading
+read-fits {s} {a} {b} {r} {n} h e = go (readDump s) (rw e at (h .is))
+  where
+    go : (w : Answer) → served (Accepted n) b ≡ byAnswer w a → n ≤ length b
+    go (accepted rs) q = giving-fits (encode rs) a q
+    go (refused f p) q = let w : Accepted n ≡ Refused f p = ap (λ (x : Served). x .answer) q in absurd (let z : _≡_ {A = ℕ} 0 1 = cc in omega arith)

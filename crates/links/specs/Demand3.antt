@@ -222,6 +222,11 @@ module _ (rs : List Rec) (link i p : ℕ) where
       empty [] f = refl
       empty (j ∷ js) f = absurd (f j (List·Memᴰ·head refl))
 
+-- "nested access conditions among them": every identifier among an object's conditions is stated, however deep it stands
+pub each-condition : {os : List Object} {i p : ℕ} {x : List ℕ} {o : Object} → objectAt os i ≡ chosen o → List·Memᴰ (held p 0x0127 x) (o .records) → States os 2 i p x
+unfolding states
+each-condition {o = o} e m = record { object = o; numbered = e; kind = 0x0127; holds = m; says = refl; some = λ z. omega arith }
+
 -- "Nothing else is on the list."
 pub nothing-else : (rs : List Rec) (r : Row) → List·Memᴰ r (links rs) → (x : List ℕ) × States (objectsOf rs) (r .link) (r .object) (r .at) x
 nothing-else rs r m = let w = on-list rs (r .link) (r .object) (r .at) (r .reply) .0 m in (w .0, w .1)

@@ -1,14 +1,15 @@
 -- What the services list, field_place and field answer, and what list leaves in the lent numbers.
-use Prim.Native.Nat.{ℕ, _+_}
+use Prim.Native.Nat.{ℕ, _+_, _≤_}
 use mathlib.Core.Path.{_≡_, sym, ap, _∙_}
 use mathlib.Core.List.{List, []}
+use native.Mathlib.Omega.{arith}
 use lib.ListN.{length}
 use Rattle.elements.specs.declared.fault.Fault.the-variants.{NoDump, NotThere}
 use Rattle.rules.specs.declared.outcome.Outcome.{Outcome}
-use Rattle.rules.specs.declared.outcome.Outcome.the-variants.{Refused}
+use Rattle.rules.specs.declared.outcome.Outcome.the-variants.{Accepted, Refused}
 use Rattle.rules.specs.Book.{records}
 use Rattle.rules.specs.Write.{Written, written, noBook, writeDump}
-use Rattle.layouts.specs.Service.{Served, served, giving}
+use Rattle.layouts.specs.Service.{Served, served, giving, giving-fits}
 use Rattle.links.specs.declared.fields.Place.{Place}
 use Rattle.links.specs.declared.fields.Place.the-variants as place
 use Rattle.links.specs.Finding.{FoundAt}
@@ -64,3 +65,12 @@ one-place h g = h .is ∙ sym (g .is)
 
 pub one-field : {b : List ℕ} {i k : ℕ} {x y : List ℕ} → FieldTold b i k x → FieldTold b i k y → x ≡ y
 one-field h g = h .is ∙ sym (g .is)
+
+-- what was accepted has room
+pub list-fits : {b a c : List ℕ} {r : Outcome} {n : ℕ} → ListTold b a c r → r ≡ Accepted n → n ≤ length c
+unfolding listing
+list-fits {b} {a} {c} {r} {n} h e = go (writeDump b) (rw e at (h .is))
+  where
+    go : (w : Written) → served (Accepted n) c ≡ ifBook w (giving (listed (links (records b))) a) (served (Refused NoDump 0) a) → n ≤ length c
+    go (written d) q = giving-fits (listed (links (records b))) a q
+    go noBook q = let w : Accepted n ≡ Refused NoDump 0 = ap (λ (x : Served). x .answer) q in absurd (let z : _≡_ {A = ℕ} 0 1 = cc in omega arith)

@@ -1,0 +1,84 @@
+-- What the exported functions answer: 0 or the refusal's number, and the number pointed to.
+use Prim.Native.Nat.{ℕ}
+use mathlib.Core.Path.{_≡_, sym, ap, _∙_}
+use mathlib.Core.List.{List}
+use Rattle.elements.specs.Faults.{numberOf}
+use Rattle.rules.specs.declared.outcome.Outcome.{Outcome}
+use Rattle.rules.specs.declared.outcome.Outcome.the-variants.{Accepted, Refused}
+use Rattle.layouts.specs.Service.{ReadTold, WriteTold, one-read, one-write}
+use Rattle.links.specs.declared.fields.Place.{Place}
+use Rattle.links.specs.declared.fields.Place.the-variants as place
+use Rattle.links.specs.Serving.{ListTold, PlaceTold, one-list, one-place}
+
+-- "each answering 0 for accepted or the refusal's number"
+abbrev pub codeOf : Outcome → ℕ
+codeOf (Accepted n) = 0
+codeOf (Refused f p) = numberOf f
+
+-- the length, or "on a refusal the number pointed to is the place"
+abbrev pub numberIn : Outcome → ℕ
+numberIn (Accepted n) = n
+numberIn (Refused f p) = p
+
+pub record Told (r : Outcome) (c n : ℕ) : Type 0 where
+  pub code : c ≡ codeOf r
+  pub number : n ≡ numberIn r
+
+-- the service's own answer, told so
+pub record ReadExported (s a b : List ℕ) (c n : ℕ) : Type 0 where
+  pub answer : Outcome
+  pub served : ReadTold s a b answer
+  pub told : Told answer c n
+
+pub record WriteExported (s a b : List ℕ) (c n : ℕ) : Type 0 where
+  pub answer : Outcome
+  pub served : WriteTold s a b answer
+  pub told : Told answer c n
+
+pub record ListExported (s a b : List ℕ) (c n : ℕ) : Type 0 where
+  pub answer : Outcome
+  pub served : ListTold s a b answer
+  pub told : Told answer c n
+
+-- a field's place: its offset and length; or the refusal's place, and the length is what it was
+abbrev pub fieldCode : Place → ℕ
+fieldCode (place.At p n) = 0
+fieldCode (place.Refused f p) = numberOf f
+
+abbrev pub offsetIn : Place → ℕ
+offsetIn (place.At p n) = p
+offsetIn (place.Refused f p) = p
+
+abbrev pub lengthIn : Place → ℕ → ℕ
+lengthIn (place.At p n) l = n
+lengthIn (place.Refused f p) l = l
+
+pub record PlaceSaid (r : Place) (c n l m : ℕ) : Type 0 where
+  pub code : c ≡ fieldCode r
+  pub offset : n ≡ offsetIn r
+  pub length : m ≡ lengthIn r l
+
+pub record FieldExported (b : List ℕ) (i k c n l m : ℕ) : Type 0 where
+  pub answer : Place
+  pub served : PlaceTold b i k answer
+  pub told : PlaceSaid answer c n l m
+
+-- any two results that a contract allows are equal
+same-told : {q r : Outcome} {c d n m : ℕ} → q ≡ r → Told q c n → Told r d m → (c ≡ d) × (n ≡ m)
+same-told e t u = (t .code ∙ ap codeOf e ∙ sym (u .code), t .number ∙ ap numberIn e ∙ sym (u .number))
+
+pub one-read-exported : {s a b e : List ℕ} {c d n m : ℕ} → ReadExported s a b c n → ReadExported s a e d m → (b ≡ e) × (c ≡ d) × (n ≡ m)
+one-read-exported h g = let w = one-read (h .served) (g .served) in let v = same-told (w .0) (h .told) (g .told) in (w .1, v .0, v .1)
+
+pub one-write-exported : {s a b e : List ℕ} {c d n m : ℕ} → WriteExported s a b c n → WriteExported s a e d m → (b ≡ e) × (c ≡ d) × (n ≡ m)
+one-write-exported h g = let w = one-write (h .served) (g .served) in let v = same-told (w .0) (h .told) (g .told) in (w .1, v .0, v .1)
+
+pub one-list-exported : {s a b e : List ℕ} {c d n m : ℕ} → ListExported s a b c n → ListExported s a e d m → (b ≡ e) × (c ≡ d) × (n ≡ m)
+one-list-exported h g = let w = one-list (h .served) (g .served) in let v = same-told (w .0) (h .told) (g .told) in (w .1, v .0, v .1)
+
+pub one-field-exported : {b : List ℕ} {i k c d n m l x y : ℕ} → FieldExported b i k c n l x → FieldExported b i k d m l y → (c ≡ d) × (n ≡ m) × (x ≡ y)
+one-field-exported {l = l} h g =
+    let e = one-place (h .served) (g .served) in
+    let t = h .told in
+    let u = g .told in
+    (t .code ∙ ap fieldCode e ∙ sym (u .code), t .offset ∙ ap offsetIn e ∙ sym (u .offset), t .length ∙ ap (λ (z : Place). lengthIn z l) e ∙ sym (u .length))

@@ -1,0 +1,76 @@
+// The four services for C and Rust: numbers, slices, and a number lent for the length or place.
+use elements::number_of;
+use layouts::Outcome;
+use links::Place;
+ghost use Rattle.adarbukoi.specs.Exports.{Told, ReadExported, WriteExported, ListExported, PlaceSaid, FieldExported};
+
+// 0 with the length, or the refusal's number with its place.
+fn tell(r: Outcome, number: &mut u64) -> u32
+    ensures { λ c. ⌜ Told r c (now (number .exit)) ⌝ }
+{
+    match r {
+        Outcome::Accepted(n) => {
+            *number = n as u64;
+            0
+        }
+        Outcome::Refused(f, p) => {
+            *number = p as u64;
+            number_of(f)
+        }
+    }
+}
+
+// A dump into a book.
+#[no_mangle]
+pub extern "C" fn adarbukoi_read(dump: &[u8], book: &mut [u8], told: &mut u64) -> u32
+    ensures { λ c. ⌜ ReadExported (now (dump .entry)) (now (book .entry)) (now (book .exit)) c (now (told .exit)) ⌝ }
+{
+    tell(layouts::read(dump, book), told)
+}
+
+// A book into the dump that has it.
+#[no_mangle]
+pub extern "C" fn adarbukoi_write(book: &[u8], dump: &mut [u8], told: &mut u64) -> u32
+    ensures { λ c. ⌜ WriteExported (now (book .entry)) (now (dump .entry)) (now (dump .exit)) c (now (told .exit)) ⌝ }
+{
+    tell(layouts::write(book, dump), told)
+}
+
+// The links of a book into lent numbers, four a row.
+#[no_mangle]
+pub extern "C" fn adarbukoi_list(book: &[u8], rows: &mut [u32], told: &mut u64) -> u32
+    ensures { λ c. ⌜ ListExported (now (book .entry)) (now (rows .entry)) (now (rows .exit)) c (now (told .exit)) ⌝ }
+{
+    tell(links::list(book, rows), told)
+}
+
+// A field's payload: its book offset and length.
+fn place(r: Place, offset: &mut u64, length: &mut u64) -> u32
+    ensures { λ c. ⌜ PlaceSaid r c (now (offset .exit)) (now (length .entry)) (now (length .exit)) ⌝ }
+{
+    match r {
+        Place::At(p, n) => {
+            *offset = p as u64;
+            *length = n as u64;
+            0
+        }
+        Place::Refused(f, p) => {
+            *offset = p as u64;
+            number_of(f)
+        }
+    }
+}
+
+// Where a field of a book is; on a refusal the length stays.
+#[no_mangle]
+pub extern "C" fn adarbukoi_field(
+    book: &[u8],
+    object: u32,
+    kind: u32,
+    offset: &mut u64,
+    length: &mut u64,
+) -> u32
+    ensures { λ c. ⌜ FieldExported (now (book .entry)) object kind c (now (offset .exit)) (now (length .entry)) (now (length .exit)) ⌝ }
+{
+    place(links::field_place(book, object, kind), offset, length)
+}
