@@ -1,0 +1,46 @@
+//! A card whose book is as long as a book can be, some of them over 65,536 bytes: the most objects with the most numbers,
+//! and for the rest of the dump lists of conditions, which take two bytes each and have records of four.
+
+use super::node::{group, leaf, Card, File, Node};
+use super::rng::Rng;
+
+/// All files together with their records have 32,768 bytes at most.
+const FILE: usize = 16_363;
+
+pub fn fat(rng: &mut Rng) -> Card {
+    let bound = FILE - rng.pick(&[0, 1, 200, 300]);
+    let paths = [vec![1], vec![2]];
+    let entry = |path: &Vec<u8>| group(0xA8, vec![group(0x30, vec![leaf(0x04, path.clone())])]);
+    Card {
+        info: File { nodes: vec![group(0x30, vec![leaf(0x02, vec![1]), leaf(0x03, vec![0])])], fill: (0, 0) },
+        directory: File { nodes: paths.iter().map(entry).collect(), fill: (0, 0) },
+        files: paths.iter().map(|path| (path.clone(), file(bound))).collect(),
+    }
+}
+
+/// Sixty-four passwords, the last of which has as many conditions as the bound allows.
+fn file(bound: usize) -> File {
+    let mut rules = Vec::new();
+    let mut nodes = vec![password(vec![]); 64];
+    // a rule of 255 conditions has 4 + 3 + 4 + 510 bytes, and the headers around grow by less than 20
+    let left = bound - 64 * password(vec![]).encode().len() - 20;
+    for _ in 0..left / 521 {
+        rules.push(rule(255));
+    }
+    rules.push(rule((left % 521).saturating_sub(12).max(4) / 2));
+    nodes[63] = password(vec![group(0x30, rules)]);
+    File { nodes, fill: (0, 0) }
+}
+
+fn rule(count: usize) -> Node {
+    group(0x30, vec![leaf(0x03, vec![0]), group(0xA1, vec![leaf(0x05, vec![]); count])])
+}
+
+fn password(rules: Vec<Node>) -> Node {
+    let mut common = vec![leaf(0x03, vec![0]), leaf(0x02, vec![1])];
+    common.extend(rules);
+    let class = vec![leaf(0x02, vec![1]), leaf(0x80, vec![1])];
+    let numbers = [(0x03, 0), (0x0A, 0), (0x02, 4), (0x02, 0), (0x02, 0), (0x80, 1)];
+    let sequence = numbers.iter().map(|(tag, value)| leaf(*tag, vec![*value])).collect();
+    group(0x30, vec![group(0x30, common), group(0x30, class), group(0xA1, vec![group(0x30, sequence)])])
+}

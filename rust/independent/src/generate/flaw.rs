@@ -1,0 +1,72 @@
+//! What can be wrong with a card that is made with flaws.
+
+use super::maker::Maker;
+
+/// What a flaw is about.
+#[derive(Clone, Copy, PartialEq, Eq)]
+pub enum Flaw {
+    Integer,
+    Flags,
+    Text,
+    Time,
+    Boolean,
+    Octets,
+    /// An identifier that is too long.
+    Identifier,
+    /// Another form of a length than the shortest.
+    Length,
+    /// A bad form of a tag.
+    Tag,
+    /// A sealed part that is too deep.
+    Depth,
+    /// A tag that is kept out of a rest.
+    Rest,
+    Condition,
+    /// Index without length or the reverse; pwdFlags bits 6 and 7.
+    Rule,
+    /// Two equal own authIds.
+    Twice,
+    /// A path that repeats or is too short or too long.
+    Path,
+    /// Too many objects.
+    Many,
+    /// A file or dump that is too long.
+    Size,
+}
+
+pub const FLAWS: [Flaw; 17] = [
+    Flaw::Integer,
+    Flaw::Flags,
+    Flaw::Text,
+    Flaw::Time,
+    Flaw::Boolean,
+    Flaw::Octets,
+    Flaw::Identifier,
+    Flaw::Length,
+    Flaw::Tag,
+    Flaw::Depth,
+    Flaw::Rest,
+    Flaw::Condition,
+    Flaw::Rule,
+    Flaw::Twice,
+    Flaw::Path,
+    Flaw::Many,
+    Flaw::Size,
+];
+
+impl Maker<'_> {
+    /// Whether what comes next shall have this flaw: never, unless the card is made for it.
+    pub fn flaw(&mut self, flaw: Flaw) -> bool {
+        let percent = match flaw {
+            Flaw::Integer | Flaw::Flags | Flaw::Tag | Flaw::Identifier => 12,
+            _ => 40,
+        };
+        self.flaws.contains(&flaw) && self.rng.chance(percent)
+    }
+
+    /// Whether an optional component is there: more often on a small card, or for a flaw that it can have.
+    pub fn option(&mut self, percent: usize, flaw: Flaw) -> bool {
+        let percent = if self.small || self.flaws.contains(&flaw) { 70 } else { percent };
+        self.rng.chance(percent)
+    }
+}

@@ -1,0 +1,137 @@
+//! Makes the parts of one card: right ones with their bounds at the edges, and, where flaws are wanted, wrong ones.
+
+use super::flaw::Flaw;
+use super::node::{leaf, Node};
+use super::rng::Rng;
+use crate::write::element::{flag_contents, integer_contents};
+
+pub struct Maker<'a> {
+    pub rng: &'a mut Rng,
+    /// The flaws that the card may have; a card without any is accepted.
+    pub flaws: Vec<Flaw>,
+    /// Identifiers to choose from, few enough that links answer, miss and repeat.
+    pub pool: Vec<Vec<u8>>,
+    /// Own authIds that are still free, so that none repeats.
+    pub own: Vec<Vec<u8>>,
+    /// Own authIds that are taken.
+    pub taken: Vec<Vec<u8>>,
+    /// How many objects the card may still have.
+    pub left: usize,
+    /// Whether the card is a small one, of few objects with most of their options.
+    pub small: bool,
+}
+
+impl Maker<'_> {
+    /// A component that identifies, from the pool.
+    pub fn identifier(&mut self, tag: u8) -> Node {
+        if self.flaw(Flaw::Identifier) {
+            return leaf(tag, vec![7; 256]);
+        }
+        if self.flaw(Flaw::Length) {
+            return self.odd_length(tag);
+        }
+        leaf(tag, self.rng.pick(&self.pool))
+    }
+
+    /// A length that is one byte longer than the shortest form, where that form just changes.
+    fn odd_length(&mut self, tag: u8) -> Node {
+        let count = self.rng.pick(&[0, 1, 127, 128, 255]);
+        let bytes = if count < 128 { vec![0x81, count] } else { vec![0x82, 0, count] };
+        let mut node = leaf(tag, vec![5; count.into()]);
+        node.length = Some(bytes);
+        node
+    }
+
+    pub fn octets(&mut self, tag: u8, low: usize, high: usize) -> Node {
+        let count = if self.flaw(Flaw::Octets) {
+            self.rng.pick(&[high + 1, high + 1, high + 100, low.saturating_sub(1)])
+        } else {
+            self.length(low, high)
+        };
+        leaf(tag, self.rng.bytes(count))
+    }
+
+    /// Mostly short, sometimes at an edge.
+    pub fn length(&mut self, low: usize, high: usize) -> usize {
+        match self.rng.below(20) {
+            0 => low,
+            1 => high,
+            2 => self.rng.between(low, high),
+            3 => self.rng.between(126, 129).clamp(low, high),
+            _ => self.rng.between(low, high.min(low + 6)),
+        }
+    }
+
+    pub fn integer(&mut self, tag: u8, low: u32, high: u32) -> Node {
+        if self.flaw(Flaw::Integer) {
+            return self.wrong_integer(tag, low, high);
+        }
+        let edges = [low, low + 1, 127, 128, 255, 256, 32_767, 32_768, high - 1, high];
+        let any = low + (self.rng.draw() % u64::from(high - low + 1)) as u32;
+        let value = if self.rng.chance(50) { self.rng.pick(&edges).clamp(low, high) } else { any };
+        leaf(tag, integer_contents(value))
+    }
+
+    fn wrong_integer(&mut self, tag: u8, low: u32, high: u32) -> Node {
+        let contents = match self.rng.below(10) {
+            0..=3 => integer_contents(high + 1),
+            4 => integer_contents(low.saturating_sub(1)),
+            5 => vec![],
+            6 => [vec![0], integer_contents(low)].concat(),
+            7 => vec![self.rng.pick(&[0xFF, 0x80, 0xFE])],
+            8 => vec![0xFF, self.rng.pick(&[0xFF, 0x80, 0x7F])],
+            _ => {
+                let count = self.rng.between(3, 9);
+                [vec![1], self.rng.bytes(count)].concat()
+            }
+        };
+        leaf(tag, contents)
+    }
+
+    pub fn flags(&mut self, tag: u8) -> Node {
+        let value = self.flag_word();
+        self.flags_of(tag, value)
+    }
+
+    pub fn flags_of(&mut self, tag: u8, value: u32) -> Node {
+        if self.flaw(Flaw::Flags) {
+            return self.wrong_flags(tag);
+        }
+        leaf(tag, flag_contents(value))
+    }
+
+    pub fn flag_word(&mut self) -> u32 {
+        let any = self.rng.draw() as u32;
+        match self.rng.below(6) {
+            0 => 0,
+            1 => 1 << self.rng.below(32),
+            2 => u32::MAX >> self.rng.below(32),
+            3 => any,
+            _ => any & 0x3FF,
+        }
+    }
+
+    fn wrong_flags(&mut self, tag: u8) -> Node {
+        let any = self.rng.byte();
+        let contents = match self.rng.below(8) {
+            0 => vec![],
+            1 => vec![self.rng.pick(&[1, 7, 8, 255])],
+            2 => vec![self.rng.pick(&[8, 9, 255]), any],
+            3 => vec![self.rng.between(1, 7) as u8, any | 1],
+            4 => vec![0, any & 0xFE],
+            5 => vec![7, 1, 2, 3, 4, 0x80],
+            6 => vec![0, 1, 2, 3, 4, 5],
+            _ => vec![4, 1, 2, 3, 4, 0x20],
+        };
+        leaf(tag, contents)
+    }
+
+    /// A BOOLEAN that is not its default.
+    pub fn boolean(&mut self, tag: u8, default: bool) -> Node {
+        let value = if default { 0x00 } else { 0xFF };
+        if self.flaw(Flaw::Boolean) {
+            return leaf(tag, self.rng.pick(&[vec![!value], vec![], vec![1], vec![value, value]]));
+        }
+        leaf(tag, vec![value])
+    }
+}

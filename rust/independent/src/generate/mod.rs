@@ -1,0 +1,98 @@
+//! Generates dumps and books: whole ones with every component and option, and damaged ones.
+
+pub mod bytes;
+pub mod card;
+mod fat;
+mod flaw;
+mod maker;
+pub mod node;
+mod object;
+pub mod rng;
+mod sealed;
+mod text;
+mod tree;
+
+use maker::Maker;
+use node::Card;
+pub use rng::Rng;
+
+/// A dump, whole in a third of the cases and otherwise damaged.
+pub fn dump(rng: &mut Rng) -> Vec<u8> {
+    if rng.chance(33) {
+        return card::valid(rng).encode();
+    }
+    match rng.below(40) {
+        0..=11 => damaged_tree(rng),
+        12..=26 => card::flawed(rng).encode(),
+        27..=32 => damaged_bytes(rng),
+        33..=38 => damaged_frames(rng),
+        _ => damaged_fill(rng),
+    }
+}
+
+/// A card with elements dropped, doubled, swapped or changed, all enclosing lengths repaired.
+fn damaged_tree(rng: &mut Rng) -> Vec<u8> {
+    let mut card = card::valid(rng);
+    let times = if rng.chance(80) { 1 } else { rng.between(2, 4) };
+    for _ in 0..times {
+        damage_tree(rng, &mut card);
+    }
+    card.encode()
+}
+
+fn damage_tree(rng: &mut Rng, card: &mut Card) {
+    if card.all_files().iter().all(|file| file.nodes.is_empty()) {
+        return;
+    }
+    let mut maker =
+        Maker { rng, flaws: vec![], pool: vec![vec![1], vec![]], own: vec![], taken: vec![], left: 0, small: false };
+    tree::damage(&mut maker, card);
+}
+
+/// A card with bytes flipped, cut, added, taken, or a length changed; nothing is repaired.
+fn damaged_bytes(rng: &mut Rng) -> Vec<u8> {
+    let mut dump = card::valid(rng).encode();
+    if rng.chance(40) {
+        bytes::change_length(rng, &mut dump);
+        return dump;
+    }
+    let times = rng.between(1, 3);
+    for _ in 0..times {
+        bytes::damage(rng, &mut dump);
+    }
+    dump
+}
+
+/// A card with whole records damaged, or with a file's bytes damaged and its record's length repaired.
+fn damaged_frames(rng: &mut Rng) -> Vec<u8> {
+    let dump = card::valid(rng).encode();
+    bytes::damage_records(rng, &dump)
+}
+
+/// A card with fill in which one byte differs; the last element of that file may be lacking, too.
+fn damaged_fill(rng: &mut Rng) -> Vec<u8> {
+    let mut card = card::valid(rng);
+    let mut files = card.all_files();
+    let at = rng.below(files.len());
+    let file = &mut files[at];
+    if rng.chance(20) {
+        file.nodes.pop();
+    }
+    let mut fill = vec![rng.pick(&[0x00, 0xFF]); rng.between(1, 12)];
+    let at = rng.below(fill.len());
+    fill[at] = rng.pick(&[0x00, 0x01, 0x30, 0xFE, 0xFF]);
+    // fill is no element, but what has no tag and no length of its own is written as it stands
+    file.nodes.push(node::Node { tag: vec![], length: Some(vec![]), body: node::Body::Bytes(fill) });
+    file.fill = (0, 0);
+    card.encode()
+}
+
+/// A damaged copy of a book.
+pub fn damaged_book(rng: &mut Rng, book: &[u8]) -> Vec<u8> {
+    if rng.chance(70) {
+        return bytes::damage_records(rng, book);
+    }
+    let mut copy = book.to_vec();
+    bytes::damage(rng, &mut copy);
+    copy
+}

@@ -1,0 +1,128 @@
+//! Texts and times.
+
+use super::flaw::Flaw;
+use super::maker::Maker;
+use super::node::{leaf, Node};
+use crate::read::values::days;
+
+/// Characters at the edges of the forms of UTF-8.
+const EDGES: [u32; 18] = [
+    0, 0x7F, 0x80, 0x7FF, 0x800, 0xFFF, 0x1000, 0xCFFF, 0xD000, 0xD7FF, 0xE000, 0xFFFF, 0x1_0000, 0x3_FFFF, 0x4_0000,
+    0xF_FFFF, 0x10_0000, 0x10_FFFF,
+];
+
+/// No UTF-8: lone, overlong, surrogate, too large and cut-off forms.
+const NO_TEXT: [&[u8]; 18] = [
+    b"\x80",
+    b"\xBF",
+    b"\xC0\x80",
+    b"\xC1\xBF",
+    b"\xC2",
+    b"\xC2\xC2",
+    b"\xE0\x9F\xBF",
+    b"\xED\xA0\x80",
+    b"\xED\xBF\xBF",
+    b"\xE1\x80",
+    b"\xE2\x28\xA1",
+    b"\xEF\xBF\xC0",
+    b"\xF0\x8F\xBF\xBF",
+    b"\xF4\x90\x80\x80",
+    b"\xF5\x80\x80\x80",
+    b"\xF1\x80\x80",
+    b"\xF1\x80\x80\x7F",
+    b"\xFF",
+];
+
+/// Two digits, and where they make a time wrong, at least in some months.
+const NO_TIME: [(usize, &[u8; 2]); 13] = [
+    (4, b"00"),
+    (4, b"13"),
+    (4, b"02"),
+    (6, b"00"),
+    (6, b"29"),
+    (6, b"30"),
+    (6, b"31"),
+    (6, b"32"),
+    (8, b"24"),
+    (10, b"60"),
+    (12, b"60"),
+    (12, b"6:"),
+    (13, b"0z"),
+];
+
+impl Maker<'_> {
+    pub fn text(&mut self, tag: u8) -> Node {
+        let mut text = String::new();
+        let bound = self.length(0, 255);
+        loop {
+            let next = self.character();
+            if text.len() + next.len_utf8() > bound {
+                break;
+            }
+            text.push(next);
+        }
+        let mut bytes = text.into_bytes();
+        if self.flaw(Flaw::Text) {
+            self.spoil_text(&mut bytes);
+        }
+        leaf(tag, bytes)
+    }
+
+    fn character(&mut self) -> char {
+        let number = match self.rng.below(5) {
+            0 => self.rng.pick(&EDGES),
+            1 => self.rng.between(0x80, 0x7FF) as u32,
+            2 => self.rng.between(0x800, 0x10_FFFF) as u32,
+            _ => self.rng.between(0x20, 0x7E) as u32,
+        };
+        char::from_u32(number).unwrap_or('?')
+    }
+
+    fn spoil_text(&mut self, bytes: &mut Vec<u8>) {
+        match self.rng.below(8) {
+            0 => *bytes = vec![b'a'; 256],
+            1 => *bytes = [vec![b'a'; 255], "é".into()].concat(),
+            2 => *bytes = [vec![b'a'; 255], vec![0x80]].concat(),
+            _ => {
+                let mut at = self.rng.below(bytes.len() + 1);
+                while at < bytes.len() && bytes[at] & 0xC0 == 0x80 {
+                    at += 1;
+                }
+                let more = self.rng.pick(&NO_TEXT);
+                bytes.splice(at..at, more.iter().copied());
+            }
+        }
+    }
+
+    pub fn time(&mut self, tag: u8) -> Node {
+        let year = self.rng.pick(&[0, 4, 100, 1900, 1999, 2000, 2023, 2024, 2100, 2400, 9999]);
+        let month = if self.rng.chance(40) { 2 } else { self.rng.between(1, 12) as u32 };
+        let last = days(year, month);
+        let day = if self.rng.chance(50) { last } else { self.rng.between(1, last as usize) as u32 };
+        let hour = self.rng.pick(&[0, 9, 10, 19, 20, 23]);
+        let minute = self.rng.pick(&[0, 9, 10, 59]);
+        let second = self.rng.pick(&[0, 9, 30, 59]);
+        let mut text = format!("{year:04}{month:02}{day:02}{hour:02}{minute:02}{second:02}Z").into_bytes();
+        if self.flaw(Flaw::Time) {
+            self.spoil_time(&mut text);
+        }
+        leaf(tag, text)
+    }
+
+    fn spoil_time(&mut self, text: &mut Vec<u8>) {
+        match self.rng.below(12) {
+            0 => text.push(b'Z'),
+            1 => text.truncate(self.rng.below(15)),
+            2 => text[self.rng.below(15)] = self.rng.pick(b"/: zZ0\x00\xB0"),
+            3..=5 => {
+                // a leap day in a year that has none
+                let year = self.rng.pick(&["1900", "2100", "2023", "0100", "9999"]);
+                text[..8].copy_from_slice(format!("{year}0229").as_bytes());
+            }
+            _ => {
+                let (at, two) = self.rng.pick(&NO_TIME);
+                text[at..at + 2].copy_from_slice(two);
+            }
+        }
+    }
+}

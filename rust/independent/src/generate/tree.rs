@@ -1,0 +1,110 @@
+//! Damage to the tree of a card. All enclosing lengths are right afterwards.
+
+use super::maker::Maker;
+use super::node::{group, Body, Card, File, Node};
+use crate::write::element::{flag_contents, integer_contents};
+
+/// Damages one element of the card.
+pub fn damage(maker: &mut Maker, card: &mut Card) {
+    let mut files: Vec<&mut File> = card.all_files().into_iter().filter(|file| !file.nodes.is_empty()).collect();
+    let count = files.len();
+    let file = files.swap_remove(maker.rng.below(count));
+    let (list, at) = choose(maker, &mut file.nodes);
+    match maker.rng.below(15) {
+        0 | 1 => {
+            list.remove(at);
+        }
+        2 | 3 => list.insert(at, list[at].clone()),
+        4 | 5 => {
+            let other = maker.rng.below(list.len());
+            list.swap(at, other);
+        }
+        6 => list[at].tag = other_tag(maker, &list[at].tag),
+        7 | 8 => resize(maker, &mut list[at]),
+        12..=14 => other_value(maker, &mut list[at]),
+        9 => list[at].length = Some(odd_length(maker, list[at].contents().len())),
+        10 => {
+            let more = maker.sealed_element(&[], 16);
+            list.insert(at, more);
+        }
+        _ => {
+            let inner = list.remove(at);
+            let tag = maker.rng.pick(&[0x30, 0xA0, 0xA1]);
+            list.insert(at, group(tag, vec![inner]));
+        }
+    }
+}
+
+/// Goes down from the top at random to an element and tells the list that it stands in.
+fn choose<'n>(maker: &mut Maker, nodes: &'n mut Vec<Node>) -> (&'n mut Vec<Node>, usize) {
+    let mut list = nodes;
+    loop {
+        let at = maker.rng.below(list.len());
+        let deeper = matches!(&list[at].body, Body::Parts(parts) if !parts.is_empty());
+        if !deeper || maker.rng.chance(15) {
+            return (list, at);
+        }
+        list = match &mut list[at].body {
+            Body::Parts(parts) => parts,
+            Body::Bytes(_) => unreachable!("only parts are gone into"),
+        };
+    }
+}
+
+fn other_tag(maker: &mut Maker, old: &[u8]) -> Vec<u8> {
+    match maker.rng.below(5) {
+        0 => vec![old[0] ^ 1 << maker.rng.below(8)],
+        1 => vec![maker.rng.between(0xA0, 0xA8) as u8],
+        2 => vec![maker.rng.pick(&[0x00, 0xFF, 0x1F, 0x9F, 0xBF])],
+        3 => maker.bad_tag(),
+        _ => maker.tag(&[]),
+    }
+}
+
+/// Gives a leaf a value at or over an edge, if its tag tells what it may be.
+fn other_value(maker: &mut Maker, node: &mut Node) {
+    let numbers = [0, 3, 5, 9, 65, 256, 32_768, 65_536];
+    let contents = match node.tag[0] {
+        0x01 => vec![maker.rng.pick(&[0x00, 0x01, 0xFF])],
+        0x02 | 0x0A | 0x80 => integer_contents(maker.rng.pick(&numbers)),
+        0x03 => flag_contents(maker.flag_word()),
+        0x04 => maker.rng.pick(&[vec![], vec![1], vec![1, 2], vec![3; 64], vec![3; 65], vec![9; 255], vec![9; 256]]),
+        _ => return resize(maker, node),
+    };
+    node.body = Body::Bytes(contents);
+}
+
+/// Gives the element a longer or shorter contents.
+fn resize(maker: &mut Maker, node: &mut Node) {
+    let mut contents = node.contents();
+    match maker.rng.below(4) {
+        0 => contents.clear(),
+        1 => contents.truncate(maker.rng.below(contents.len() + 1)),
+        2 => {
+            let count = maker.rng.between(1, 3);
+            let more = maker.rng.bytes(count);
+            contents.extend(more);
+        }
+        _ => {
+            let count = maker.rng.pick(&[2, 65, 128, 256]);
+            contents.resize(count, 0x41);
+        }
+    }
+    node.body = Body::Bytes(contents);
+}
+
+/// Another form of this length than the shortest, or another length.
+fn odd_length(maker: &mut Maker, length: usize) -> Vec<u8> {
+    let low = length as u8;
+    let high = (length >> 8) as u8;
+    match maker.rng.below(8) {
+        0 => vec![0x81, low],
+        1 => vec![0x82, high, low],
+        2 => vec![0x83, 0, high, low],
+        3 => vec![0x80],
+        4 => vec![low.wrapping_add(1) & 0x7F],
+        5 => vec![low.wrapping_sub(1) & 0x7F],
+        6 => vec![0x84, 0, 0, high, low],
+        _ => vec![maker.rng.byte()],
+    }
+}

@@ -1,0 +1,37 @@
+//! The refusals of document 01, by number.
+
+/// A refusal's number and its place.
+pub type Refusal = (u32, usize);
+
+/// dump over 32,768 bytes
+pub const SIZE: u32 = 1;
+/// a dump record is broken, missing, of the wrong kind, or a file or path length is not allowed
+pub const FRAME: u32 = 2;
+/// bad or cut-off tag form, or not the component due here, or one more than is due
+pub const TAG: u32 = 3;
+/// bad length form, cut off, or beyond its container
+pub const LENGTH: u32 = 4;
+/// container ends early
+pub const MISSING: u32 = 5;
+/// not in the form above, or a written default
+pub const VALUE: u32 = 6;
+/// outside a stated bound
+pub const RANGE: u32 = 7;
+/// index without length or the reverse; pwdFlags bits 6 and 7 both set
+pub const RULE: u32 = 8;
+/// one level too many
+pub const DEPTH: u32 = 9;
+/// the 129th object
+pub const MANY: u32 = 10;
+/// fill bytes differ
+pub const FILL: u32 = 11;
+/// EF.OD names a path twice, or the files do not follow it
+pub const PATHS: u32 = 12;
+/// two authentication objects with equal own authId
+pub const TWICE: u32 = 13;
+/// output too short
+pub const ROOM: u32 = 14;
+/// no accepted dump has this book
+pub const BOOK: u32 = 15;
+/// object or field not there
+pub const NONE: u32 = 16;

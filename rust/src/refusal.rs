@@ -1,0 +1,57 @@
+//! Refusals, with the words of document 01.
+
+use std::error::Error;
+use std::fmt;
+
+/// A refusal: its number, 1 to 16, and its place.
+///
+/// The place is an offset into the input, except for number 14, where it is the size needed
+/// (in bytes or, for the list, in numbers).
+#[derive(Clone, Copy, Debug, PartialEq, Eq)]
+pub struct Refusal {
+    pub number: u32,
+    pub place: u64,
+}
+
+impl Refusal {
+    /// The number's short name.
+    pub fn name(&self) -> &'static str {
+        words(self.number).0
+    }
+
+    /// When the number is given.
+    pub fn meaning(&self) -> &'static str {
+        words(self.number).1
+    }
+}
+
+impl fmt::Display for Refusal {
+    fn fmt(&self, f: &mut fmt::Formatter<'_>) -> fmt::Result {
+        let Refusal { number, place } = self;
+        write!(f, "refused, {number} {} at {place}: {}", self.name(), self.meaning())
+    }
+}
+
+impl Error for Refusal {}
+
+fn words(number: u32) -> (&'static str, &'static str) {
+    match number {
+        1 => ("size", "dump over 32,768 bytes"),
+        2 => ("frame", "a dump record is broken, missing, of the wrong kind, or a file or path length is not allowed"),
+        3 => ("tag", "bad or cut-off tag form, or not the component due here, or one more than is due"),
+        4 => ("length", "bad length form, cut off, or beyond its container"),
+        5 => ("missing", "container ends early"),
+        6 => ("value", "not in its form, or a written default"),
+        7 => ("range", "outside a stated bound"),
+        8 => ("rule", "index without length or the reverse, or pwdFlags bits 6 and 7 both set"),
+        9 => ("depth", "one level too many"),
+        10 => ("many", "the 129th object"),
+        11 => ("fill", "fill bytes differ"),
+        12 => ("paths", "EF.OD names a path twice, or the files do not follow it"),
+        13 => ("twice", "two authentication objects with equal own authId"),
+        14 => ("room", "output too short, the place is the size needed"),
+        15 => ("book", "no accepted dump has this book"),
+        16 => ("none", "object or field not there"),
+        _ => ("unknown", "no refusal of document 01"),
+    }
+}
