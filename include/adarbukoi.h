@@ -3,7 +3,7 @@
  * Each function answers 0 for accepted, or the number of a refusal; then the number pointed to is the refusal's place,
  * and no other byte or number that the caller lent has changed. Nothing is asked of the caller but C's own rules: each
  * pointer is to as many bytes (or numbers) as the length beside it says, and what is written to overlaps nothing else.
- * No function keeps anything, allocates anything or calls anything; the stack that a call takes is below 512 KiB.
+ * No function keeps anything, allocates anything or calls anything; the stack that a call takes is below 256 KiB.
  *
  * Link with libadarbukoi.a, which `rt staticlib adarbukoi` writes to target/staticlib/.
  */
