@@ -18,9 +18,9 @@ sets-append (a ∷ vs) ws l i =
 pub put-none : (out : List ℕ) (o : ℕ) → Put out out o o []
 put-none out o = record { at = omega arith; to = refl }
 
--- a byte for which there is no place is not stored
-pub put-past : (a : List ℕ) (o b : ℕ) → length a ≤ o → Put a a o (o + 1) (b ∷ [])
-put-past a o b h = record { at = refl; to = sym (set-out a o b h) }
+-- a put leaves the slice its length
+pub put-length : {a b : List ℕ} {o p : ℕ} {x : List ℕ} → Put a b o p x → length b ≡ length a
+put-length {a} {b} {o} {p} {x} f = rw (f .to) (length-sets a o x)
 
 -- one thing after the other
 pub put-put : {a b c : List ℕ} {o p q : ℕ} {x y : List ℕ} → Put a b o p x → Put b c p q y → Put a c o q (x ++ y)
@@ -28,6 +28,17 @@ put-put {a} {b} {c} {o} {p} {q} {x} {y} f g = record {
   at = omega (arith, length-append x y, f .at, g .at);
   to = g .to ∙ rw (f .at, f .to) (sym (sets-append x y a o));
 }
+
+-- bytes for which there is no place are not stored
+sets-past : (y a : List ℕ) (o : ℕ) → length a ≤ o → sets a o y ≡ a
+sets-past [] a o h = refl
+sets-past (b ∷ y) a o h = rw (set-out a o b h) (sets-past y a (suc o) (omega arith))
+
+pub put-over : {a b : List ℕ} {o p : ℕ} {x : List ℕ} → Put a b o p x → length a ≤ p → (y : List ℕ) → Put a b o (p + length y) (x ++ y)
+put-over {b = b} {p = p} f h y = put-put f (record { at = refl; to = sym (sets-past y b p (omega (arith, put-length f))) })
+
+pub put-past : (a : List ℕ) (o b : ℕ) → length a ≤ o → Put a a o (o + 1) (b ∷ [])
+put-past a o b h = put-over (put-none a o) h (b ∷ [])
 
 -- what is put, by an equal name
 pub put-as : {a b : List ℕ} {o p : ℕ} {x y : List ℕ} → Put a b o p x → x ≡ y → Put a b o p y
@@ -40,10 +51,6 @@ put-then f g e = put-as (put-put f g) e
 -- three things one after the other, by an equal name
 pub put-then3 : {a b c d : List ℕ} {o p q r : ℕ} {x y z w : List ℕ} → Put a b o p x → Put b c p q y → Put c d q r z → (x ++ y) ++ z ≡ w → Put a d o r w
 put-then3 f g h e = put-then (put-put f g) h e
-
--- a put leaves the slice its length
-pub put-length : {a b : List ℕ} {o p : ℕ} {x : List ℕ} → Put a b o p x → length b ≡ length a
-put-length {a} {b} {o} {p} {x} f = rw (f .to) (length-sets a o x)
 
 -- a put that fits is a splice
 pub put-fits : {a b : List ℕ} {o p : ℕ} {x : List ℕ} → Put a b o p x → p ≤ length a → b ≡ take o a ++ x ++ drop p a

@@ -3,7 +3,7 @@ ghost use Prim.Native.Nat.{_+_, _-_, _^_, _≤_, _<_};
 ghost use lib.ListN.{length};
 ghost use mathlib.Core.List.{[], _∷_};
 ghost use lib.Seq.{slice};
-ghost use Rattle.elements.specs.Put.{Put, le16, le32};
+ghost use Rattle.elements.specs.Put.{Put, le16, le32, Places};
 
 // Stores b at out[o] where out has such a place.
 pub fn put_byte(out: &mut [u8], o: usize, b: u8) -> usize
@@ -35,16 +35,31 @@ pub fn put_le32(out: &mut [u8], o: usize, v: u32) -> usize
     put_le16(out, p, (v / 65536) as u16)
 }
 
-// The bytes of s from a to e.
+// How many of n places from o on there are, of len in all.
+fn places(len: usize, o: usize, n: usize) -> usize
+    ensures { λ r. ⌜ Places len o n r ⌝ }
+{
+    if len <= o {
+        return 0;
+    }
+    if len - o < n {
+        return len - o;
+    }
+    n
+}
+
+// The bytes of s from a to e: what has a place is copied in one run.
 pub fn put_part(out: &mut [u8], o: usize, s: &[u8], a: usize, e: usize) -> usize
     requires { ⌜ (a ≤ e) × (e ≤ length (now s)) × (o < 2 ^ 63) ⌝ }
     ensures { λ r. ⌜ (r ≡ o + (e - a)) × Put (now (out .entry)) (now (out .exit)) o r (slice a e (now (s .entry))) ⌝ }
 {
+    let stop = a + places(out.len(), o, e - a);
     let mut i = a;
     let mut p = o;
-    while i < e {
-        p = put_byte(out, p, s[i]);
+    while i < stop {
+        out[p] = s[i];
         i += 1;
+        p += 1;
     }
-    p
+    o + (e - a)
 }

@@ -83,7 +83,7 @@ pub fn condition(
             if 255 <= k {
                 return Part::Fails(Fault::ManyConditions, at);
             }
-            condition_as(s, levels - 1, sort_of(t), t, at, a, e, out, o)
+            return condition_as(s, levels - 1, sort_of(t), t, at, a, e, out, o);
         }
     }
 }
@@ -105,7 +105,9 @@ fn condition_as(
 {
     match x {
         Sort::Always => Part::Took(e, put_bare(out, o, 0x0126)),
-        Sort::Identifier => identifier(s, at, a, e, out, o),
+        Sort::Identifier => {
+            return identifier(s, at, a, e, out, o);
+        }
         Sort::Not => negated(s, levels, at, a, e, out, o),
         Sort::And => listed(s, levels, 0x012a, at, a, e, out, o),
         Sort::Or => listed(s, levels, 0x012b, at, a, e, out, o),

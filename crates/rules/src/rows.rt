@@ -355,14 +355,32 @@ pub fn row_of(q: Sequence, i: usize) -> Row
     ensures { λ r. ⌜ r ≡ getD (rowsOf q) i noRow ⌝ }
 {
     match q {
-        Sequence::Info => INFO[i],
-        Sequence::Common => COMMON[i],
-        Sequence::Rule => RULE[i],
-        Sequence::Key => KEY[i],
-        Sequence::Certificate => CERTIFICATE[i],
-        Sequence::Authentication => AUTHENTICATION[i],
-        Sequence::PrivateKey => PRIVATE_KEY[i],
-        Sequence::Password => PASSWORD[i],
-        Sequence::Path => PATH[i],
+        Sequence::Info => {
+            return INFO[i];
+        }
+        Sequence::Common => {
+            return COMMON[i];
+        }
+        Sequence::Rule => {
+            return RULE[i];
+        }
+        Sequence::Key => {
+            return KEY[i];
+        }
+        Sequence::Certificate => {
+            return CERTIFICATE[i];
+        }
+        Sequence::Authentication => {
+            return AUTHENTICATION[i];
+        }
+        Sequence::PrivateKey => {
+            return PRIVATE_KEY[i];
+        }
+        Sequence::Password => {
+            return PASSWORD[i];
+        }
+        Sequence::Path => {
+            return PATH[i];
+        }
     }
 }

@@ -95,7 +95,9 @@ fn make_condition_as(
 {
     match x {
         Sort::Always => make_element(b, i, 0x05, p, p, out, o),
-        Sort::Identifier => make_element(b, i, 0x04, p, i, out, o),
+        Sort::Identifier => {
+            return make_element(b, i, 0x04, p, i, out, o);
+        }
         Sort::Not => make_not(b, i, levels, out, o),
         Sort::And => make_list(b, i, levels, 0xa1, count_at(b, p, i), out, o),
         Sort::Or => make_list(b, i, levels, 0xa2, count_at(b, p, i), out, o),

@@ -118,9 +118,9 @@ pub +condition+condition-as+conditions+listed+negated-spec : {M : Type 1} → st
     (λ c. search needs)  -- condition-sub-condition-as
     (λ c κs. search needs)  -- condition-sort-of-requires
     (λ c κs. search (head-low, head-mid, head-high, needs))  -- condition-condition-as-requires
-    (λ c. search (condition-bad, forward-fails, needs))  -- condition-returns-5
     (λ c. search needs)  -- condition-same-length
-    (λ c. search (condition-here, forward-in, head-low, needs)))  -- condition-returns-6
+    (λ c. search (condition-here, forward-in, head-low, needs))  -- condition-returns-5
+    (λ c. search (condition-bad, forward-fails, needs)))  -- condition-returns-6
     (λ t. condition-as-lts.spec (
       put-bare-reads.Asked,
       put-bare-reads.Learnt,
@@ -139,6 +139,8 @@ pub +condition+condition-as+conditions+listed+negated-spec : {M : Type 1} → st
     (λ c κs. search needs)  -- condition-as-put-bare-requires
     (λ c. search needs)  -- condition-as-enum-told-2
     (λ c κs. search needs)  -- condition-as-identifier-requires
+    (λ c. search needs)  -- condition-as-same-length
+    (λ c. search (as-identifier, needs))  -- condition-as-returns
     (λ c. search needs)  -- condition-as-enum-told-3
     (λ c κs. search needs)  -- condition-as-negated-requires
     (λ c. search needs)  -- condition-as-enum-told-4
@@ -147,10 +149,8 @@ pub +condition+condition-as+conditions+listed+negated-spec : {M : Type 1} → st
     (λ c κs. search needs)  -- condition-as-listed-requires-2
     (λ c. search needs)  -- condition-as-enum-told-6
     (λ c κs. search needs)  -- condition-as-sealed-requires
-    (λ c. search needs)  -- condition-as-same-length
-    (λ c. search (as-always, needs))  -- condition-as-returns
     (λ c. search needs)  -- condition-as-same-length-2
-    (λ c. search (as-identifier, needs))  -- condition-as-returns-2
+    (λ c. search (as-always, needs))  -- condition-as-returns-2
     (λ c. search needs)  -- condition-as-same-length-3
     (λ c. search (as-not, needs))  -- condition-as-returns-3
     (λ c. search needs)  -- condition-as-same-length-4

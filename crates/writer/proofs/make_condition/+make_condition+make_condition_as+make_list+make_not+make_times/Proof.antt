@@ -160,6 +160,8 @@ pub +make-condition+make-condition-as+make-list+make-not+make-times-spec :
     (λ c κs. search needs)  -- make-condition-as-make-element-requires
     (λ c. search needs)  -- make-condition-as-enum-told-2
     (λ c κs. search needs)  -- make-condition-as-make-element-requires-2
+    (λ c. search needs)  -- make-condition-as-same-length
+    (λ c. search (as-identifier, needs))  -- make-condition-as-returns
     (λ c. search needs)  -- make-condition-as-enum-told-3
     (λ c κs. search needs)  -- make-condition-as-make-not-requires
     (λ c. search needs)  -- make-condition-as-enum-told-4
@@ -170,10 +172,8 @@ pub +make-condition+make-condition-as+make-list+make-not+make-times-spec :
     (λ c κs. search needs)  -- make-condition-as-make-list-requires-2
     (λ c. search needs)  -- make-condition-as-enum-told-6
     (λ c κs. search needs)  -- make-condition-as-make-bytes-requires
-    (λ c. search needs)  -- make-condition-as-same-length
-    (λ c. search (as-always, needs))  -- make-condition-as-returns
     (λ c. search needs)  -- make-condition-as-same-length-2
-    (λ c. search (as-identifier, needs))  -- make-condition-as-returns-2
+    (λ c. search (as-always, needs))  -- make-condition-as-returns-2
     (λ c. search needs)  -- make-condition-as-same-length-3
     (λ c. search (as-not, needs))  -- make-condition-as-returns-3
     (λ c. search needs)  -- make-condition-as-same-length-4
