@@ -18,7 +18,7 @@ use Rattle.rules.specs.BookLaws.{from-few, ends-least, ends-good, ends-cut}
 use Rattle.rules.specs.Write.{Written, written, noBook, writeDump}
 use Rattle.links.specs.declared.fields.Place.{Place}
 use Rattle.links.specs.declared.fields.Place.the-variants as place
-use Rattle.links.specs.Links.{Held, held, Object, closing, heldFrom, objectsFrom, Found, none, found, firstOf, Chosen, nobody, chosen, objectAt, fieldIn, fieldOf}
+use Rattle.links.specs.Links.{Held, held, Object, heldFrom, objectsFrom, Found, none, found, firstOf, Chosen, nobody, chosen, objectAt, fieldIn, fieldOf}
 use Rattle.links.specs.Finding.{Within, objectsAt, heldAt, objectThere, heldThere, NextObject, FoundAt}
 use Rattle.links.proofs.ObjectLaws.{within-end}
 use Rattle.links.specs.Serving.{ifBook, placeOf, PlacedAt, placing, PlaceTold, payOf, handing, FieldTold}

@@ -11,7 +11,8 @@ use borrow.Author.Tests.{eq-eqb, ne-eqb}
 use Rattle.rules.specs.Files.{two}
 use Rattle.rules.specs.Book.{Ends}
 use Rattle.rules.specs.BookLaws.{from-few}
-use Rattle.links.specs.Links.{Object, closing, heldFrom, states, answers, rowsOf, stated, objectRows, linksFrom}
+use Rattle.rules.specs.Blocks.{closing}
+use Rattle.links.specs.Links.{Object, heldFrom, states, answers, rowsOf, stated, objectRows, linksFrom}
 use Rattle.links.specs.Finding.{Within, objectsAt, heldAt, NextObject, Indexed, RowsPut}
 use Rattle.links.specs.FindingLaws.{held-first, some-end}
 use Rattle.links.proofs.ObjectLaws.{within-end}

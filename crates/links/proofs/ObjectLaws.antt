@@ -13,7 +13,8 @@ use Rattle.elements.specs.ChoiceLaws.{by-less}
 use Rattle.rules.specs.Files.{two}
 use Rattle.rules.specs.Book.{Ends}
 use Rattle.rules.specs.BookLaws.{from-few, ends-least, ends-good, ends-cut}
-use Rattle.links.specs.Links.{closing, heldFrom, objectsFrom, Found, firstOf}
+use Rattle.rules.specs.Blocks.{closing}
+use Rattle.links.specs.Links.{heldFrom, objectsFrom, Found, firstOf}
 use Rattle.links.specs.FindingLaws.{objects-first, held-first, some-end}
 use Rattle.links.specs.Finding.{Within, objectsAt, heldAt, objectThere, heldThere, NextObject, FoundAt}
 

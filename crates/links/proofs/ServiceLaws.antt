@@ -1,21 +1,19 @@
 -- The services list, field_place and field.
-use Prim.Native.Nat.{ℕ, zero, suc, _+_, _-_, _<_, _≤_}
-use mathlib.Core.Path.{_≡_, refl, sym, ap, _∙_}
+use Prim.Native.Nat.{ℕ, zero, _+_, _-_, _<_, _≤_}
+use mathlib.Core.Path.{_≡_, refl, sym, _∙_}
 use mathlib.Core.Bool.{Bool, true, false, _&&_}
-use mathlib.Core.List.{List, [], _∷_, _++_}
+use mathlib.Core.List.{List, _++_}
 use native.Mathlib.Omega.{arith}
-use lib.ListN.{length, getD, drop}
+use lib.ListN.{length, drop}
 use lib.Seq.{slice, length-slice}
-use lib.Dec.{leb, eqb}
+use lib.Dec.{leb}
 use borrow.Author.Tests.{eq-eqb, ne-eqb, le-leb, lt-leb, leb-true, leb-false}
-use Rattle.elements.specs.Choice.{choose}
 use Rattle.elements.specs.Lists.{Bytes}
 use Rattle.elements.specs.Put.{Put}
 use Rattle.elements.specs.PutLaws.{put-fits}
 use Rattle.elements.specs.declared.fault.Fault.the-variants.{NoRoom, NoDump, NotThere}
 use Rattle.rules.specs.declared.outcome.Outcome.{Outcome}
 use Rattle.rules.specs.declared.outcome.Outcome.the-variants.{Accepted, Refused}
-use Rattle.rules.specs.Reading.{Rec, rec}
 use Rattle.rules.specs.Files.{two}
 use Rattle.rules.specs.Book.{records, recordsFrom, Ends}
 use Rattle.rules.specs.BookLaws.{from-few, ends-least, ends-good, ends-cut}
@@ -23,13 +21,13 @@ use Rattle.rules.specs.Meaning.{AcceptedBook}
 use Rattle.rules.specs.Write.{Written, written, noBook, writeDump}
 use Rattle.rules.specs.WriteLaws.{records-of}
 use Rattle.rules.specs.Demand2.{read-then-written, refused-if-none, book-most}
-use Rattle.rules.specs.CountLaws.{objectsIn, few-objects}
 use Rattle.layouts.specs.Service.{served, giving, Gives}
 use Rattle.layouts.specs.Accept.{BookTold}
 use Rattle.links.specs.declared.fields.Place.{Place}
 use Rattle.links.specs.declared.fields.Place.the-variants as place
-use Rattle.links.specs.Links.{Held, held, Object, past, closing, heldFrom, objectsFrom, objectsOf, Found, none, found, firstOf, Row, links, linksFrom, listed, Chosen, nobody, chosen, objectAt, fieldIn, fieldOf}
+use Rattle.links.specs.Links.{Held, held, objectsOf, Found, none, found, firstOf, Row, links, linksFrom, listed, Chosen, nobody, chosen, objectAt, fieldIn, fieldOf}
 use Rattle.links.specs.Finding.{Within, objectsAt, heldAt, objectThere, heldThere, NextObject, FoundAt, RowsPut}
+use Rattle.links.specs.Whole.{few-objects}
 use Rattle.links.specs.FindingLaws.{from-start}
 use Rattle.links.specs.Serving.{ifBook, listing, ListTold, placeOf, PlacedAt, placing, PlaceTold, payOf, handing, FieldTold}
 
@@ -37,24 +35,12 @@ use Rattle.links.specs.Serving.{ifBook, listing, ListTold, placeOf, Plac
 pub book-start : {b : List ℕ} {t : Bool} → BookTold b t → t ≡ true → Within b 0
 book-start k e = record { high = omega arith; small = book-most (k .yes e .has) }
 
-count-objects : (at : ℕ) (rs : List Rec) → length (objectsFrom at rs) ≡ objectsIn rs
-unfolding objectsFrom objectsIn
-count-objects at [] = refl
-count-objects at (r ∷ rs) = go (eqb (r .kind) 0x0120) (count-objects (past at r) rs)
-  where
-    o : Object
-    o = record { entry = getD (r .pay) 0 0; records = heldFrom (past at r) rs }
-
-    go : (t : Bool) → length (objectsFrom (past at r) rs) ≡ objectsIn rs → length (choose t (λ _. o ∷ objectsFrom (past at r) rs) (λ _. objectsFrom (past at r) rs)) ≡ choose t (λ _. suc (objectsIn rs)) (λ _. objectsIn rs)
-    go true e = ap suc e
-    go false e = e
-
 pub book-few : {b : List ℕ} {t : Bool} → BookTold b t → t ≡ true → length (objectsAt b 0) ≤ 128
 book-few {b} k e =
     let a = k .yes e in
     let h = a .has in
     let q : records b ≡ h .records = rw (h .book) at (records-of (a .dump) (h .records) (h .bytes) (h .reads)) in
-    rw (from-start b, q, count-objects 0 (h .records)) (few-objects (a .dump) (h .records) (h .reads))
+    rw (from-start b, q) (few-objects (a .dump) (h .records) (h .reads))
 
 -- the book is one, or none
 module _ {b : List ℕ} {t : Bool} (k : BookTold b t) where

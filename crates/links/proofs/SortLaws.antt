@@ -6,7 +6,8 @@ use mathlib.Core.Bool.{Bool, true, false}
 use native.Mathlib.Omega.{arith}
 use lib.Dec.{eqb}
 use borrow.Author.Tests.{ne-eqb, le-leb, lt-leb}
-use Rattle.links.specs.Links.{closing, certifying, states, answering, idKind}
+use Rattle.rules.specs.Blocks.{closing}
+use Rattle.links.specs.Links.{certifying, states, answering, idKind}
 
 -- a record that ends an object's, and one that does not
 pub closing-is : (k : ℕ) → (k ≡ 0x0107) ⊎ ((k ≡ 0x0110) ⊎ ((k ≡ 0x0118) ⊎ (k ≡ 0x0120))) → true ≡ closing k

@@ -20,7 +20,8 @@ use Rattle.rules.specs.BookLaws.{from-few}
 use Rattle.rules.specs.Write.{Written, written, noBook, writeDump}
 use Rattle.links.specs.declared.fields.Place.{Place}
 use Rattle.links.specs.declared.fields.Place.the-variants as place
-use Rattle.links.specs.Links.{Held, closing, heldFrom, objectsFrom, Found, none, found, firstOf, objectAt, fieldIn, fieldOf}
+use Rattle.rules.specs.Blocks.{closing}
+use Rattle.links.specs.Links.{Held, heldFrom, objectsFrom, Found, none, found, firstOf, objectAt, fieldIn, fieldOf}
 use Rattle.links.specs.Finding.{objectsAt, heldAt, objectThere, heldThere}
 use Rattle.links.specs.FindingLaws.{from-start, objects-first, held-first, some-end}
 use Rattle.links.specs.Serving.{ifBook, placeOf, placing, PlaceTold, payOf, handing, FieldTold}

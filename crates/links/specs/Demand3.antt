@@ -14,7 +14,7 @@ use Rattle.rules.specs.Reading.{Rec}
 use Rattle.rules.specs.Files.{equal}
 use Rattle.rules.specs.DumpLaws.{equal-is}
 use Rattle.rules.specs.WriteLaws.{equal-self}
-use Rattle.links.specs.Links.{Held, held, Object, past, closing, heldFrom, objectsFrom, objectsOf, states, answering, idKind, Found, none, found, firstOf, isId, bears, answers, Reply, by, missing, Row, row, replies, rowsOf, stated, objectRows, linksFrom, links, Chosen, nobody, chosen, objectAt}
+use Rattle.links.specs.Links.{Held, held, Object, past, heldFrom, objectsFrom, objectsOf, states, answering, idKind, Found, none, found, firstOf, isId, bears, answers, Reply, by, missing, Row, row, replies, rowsOf, stated, objectRows, linksFrom, links, Chosen, nobody, chosen, objectAt}
 
 -- object i states the link at book offset p: a record of it there holds the identifier x
 pub record States (os : List Object) (link i p : ℕ) (x : List ℕ) : Type 0 where
@@ -221,11 +221,6 @@ module _ (rs : List Rec) (link i p : ℕ) where
       empty : (js : List ℕ) → ((j : ℕ) → List·Memᴰ j js → ⊥) → js ≡ []
       empty [] f = refl
       empty (j ∷ js) f = absurd (f j (List·Memᴰ·head refl))
-
--- "nested access conditions among them": every identifier among an object's conditions is stated, however deep it stands
-pub each-condition : {os : List Object} {i p : ℕ} {x : List ℕ} {o : Object} → objectAt os i ≡ chosen o → List·Memᴰ (held p 0x0127 x) (o .records) → States os 2 i p x
-unfolding states
-each-condition {o = o} e m = record { object = o; numbered = e; kind = 0x0127; holds = m; says = refl; some = λ z. omega arith }
 
 -- "Nothing else is on the list."
 pub nothing-else : (rs : List Rec) (r : Row) → List·Memᴰ r (links rs) → (x : List ℕ) × States (objectsOf rs) (r .link) (r .object) (r .at) x

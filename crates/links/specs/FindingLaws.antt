@@ -11,7 +11,8 @@ use Rattle.elements.specs.ChoiceLaws.{by-less}
 use Rattle.rules.specs.Files.{two}
 use Rattle.rules.specs.Book.{records, recordsFrom, Ends}
 use Rattle.rules.specs.BookLaws.{ends-least, ends-good, ends-cut}
-use Rattle.links.specs.Links.{closing, heldFrom, objectsFrom}
+use Rattle.rules.specs.Blocks.{closing}
+use Rattle.links.specs.Links.{heldFrom, objectsFrom}
 use Rattle.links.specs.Finding.{objectsAt, heldAt, objectThere, heldThere}
 
 -- all records are those from the start on

@@ -1,5 +1,6 @@
 pub mod Links
 pub mod Demand3
+pub mod Whole
 pub mod Rising
 pub mod Finding
 pub mod FindingLaws

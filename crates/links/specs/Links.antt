@@ -1,12 +1,13 @@
 -- "The links" of document 01, over the records of a book.
 use Prim.Native.Nat.{ℕ, zero, suc, _+_}
 use mathlib.Core.List.{List, [], _∷_, _++_, map}
-use mathlib.Core.Bool.{Bool, true, false, _&&_, _||_}
+use mathlib.Core.Bool.{Bool, true, false, _&&_}
 use lib.ListN.{length, getD}
 use lib.Dec.{leb, eqb}
 use Rattle.elements.specs.Choice.{pick, choose}
 use Rattle.rules.specs.Reading.{Rec}
 use Rattle.rules.specs.Files.{equal}
+use Rattle.rules.specs.Blocks.{closing}
 
 -- a record of an object, and its book offset
 pub record Held : Type 0 where
@@ -27,9 +28,6 @@ abbrev pub past : ℕ → Rec → ℕ
 past at r = at + 4 + length (r .pay)
 
 -- an object's records reach "up to the next 0120, 0110, 0107, 0118 or the end"
-abbrev pub closing : ℕ → Bool
-closing k = eqb k 0x0120 || (eqb k 0x0110 || (eqb k 0x0107 || eqb k 0x0118))
-
 unfoldable pub heldFrom : ℕ → List Rec → List Held
 heldFrom at [] = []
 heldFrom at (r ∷ rs) = choose (closing (r .kind)) (λ _. []) (λ _. held at (r .kind) (r .pay) ∷ heldFrom (past at r) rs)

@@ -10,7 +10,8 @@ use lib.Dec.{eqb}
 use borrow.Author.Tests.{eqb-true}
 use Rattle.elements.specs.Choice.{choose}
 use Rattle.rules.specs.Reading.{Rec}
-use Rattle.links.specs.Links.{Held, held, Object, past, closing, heldFrom, objectsFrom, objectsOf, states, bears, answers, Reply, by, missing, Row, row, replies, rowsOf, stated, objectRows, linksFrom, links}
+use Rattle.rules.specs.Blocks.{closing}
+use Rattle.links.specs.Links.{Held, held, Object, past, heldFrom, objectsFrom, objectsOf, states, bears, answers, Reply, by, missing, Row, row, replies, rowsOf, stated, objectRows, linksFrom, links}
 use Rattle.links.specs.Demand3.{Said, stated-are}
 
 -- an answering object before another
@@ -77,7 +78,7 @@ replies-rise l i p [] c = (λ q m. absurd (List·Memᴰ·not-nil m), tt)
 replies-rise l i p (j ∷ js) c = rows-rise l i p (j ∷ js) c
 
 -- a record that closes nothing starts no object
-not-closing : (k : ℕ) → closing k ≡ false → eqb k 0x0120 ≡ false
+pub not-closing : (k : ℕ) → closing k ≡ false → eqb k 0x0120 ≡ false
 not-closing k e = go (eqb k 0x0120) (eqb k 0x0110 || (eqb k 0x0107 || eqb k 0x0118)) e
   where
     go : (t u : Bool) → (t || u) ≡ false → t ≡ false

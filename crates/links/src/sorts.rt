@@ -1,6 +1,7 @@
 // What a record is to the links: by its kind and its entry's tag.
 ghost use mathlib.Core.Path.{_≡_};
-ghost use Rattle.links.specs.Links.{closing, certifying, states, answering, idKind};
+ghost use Rattle.rules.specs.Blocks.{closing};
+ghost use Rattle.links.specs.Links.{certifying, states, answering, idKind};
 
 // Whether an object's records end with a record of this kind.
 pub fn is_closing(kind: usize) -> bool

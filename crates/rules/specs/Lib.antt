@@ -7,6 +7,7 @@ pub mod Book
 pub mod Render
 pub mod Write
 pub mod Meaning
+pub mod Blocks
 pub mod Demand2
 pub mod Computing
 pub mod Examples
@@ -27,4 +28,4 @@ pub mod RowCases
 pub mod Refusals
 pub mod CheckLaws
 pub mod BookLaws
-pub mod CountLaws
+pub mod BlockLaws

@@ -1,8 +1,8 @@
--- An accepted book has at most 128 objects.
+-- An accepted book is in blocks: each object of the dump stands whole in it, with all records that reading it gives, and there are at most 128.
 use Prim.Native.Nat.{ℕ, zero, suc, _+_, _-_, _/_, _%_, _≤_, _<_}
-use mathlib.Core.List.{List, [], _∷_, _++_}
+use mathlib.Core.List.{List, [], _∷_, _++_, append-assoc, append-nil}
 use mathlib.Core.Bool.{Bool, true, false, _&&_, _||_, not}
-use mathlib.Core.Path.{_≡_, refl, ap, _∙_}
+use mathlib.Core.Path.{_≡_, refl}
 use native.Mathlib.Omega.{arith}
 use lib.ListN.{length, getD, length-append}
 use lib.Seq.{slice}
@@ -33,76 +33,77 @@ use Rattle.rules.specs.Parts.{Val, good, wrong, judged, absent, due, sur
 use Rattle.rules.specs.Tables.{indexRow, lengthRow, tagOf, kindOf, sortBy}
 use Rattle.rules.specs.Objects.{has, same, paired, flagged, counts, quiet, listed, path, identified, conditionAs, conditionBody, condition, plainCondition, rule, rules, common, classBody, subclass, privateKey, certificateValue, certificate, password, typePart, typeBody, contents, objectBody, object}
 use Rattle.rules.specs.Files.{Name, File, accepted, readDump, toFill, filled, fill, ciaBody, ciaElement, ciaFill, cia, objects, namedPath, entryInside, entryBody, od, directory, directories, namesOf}
+use Rattle.rules.specs.Blocks.{closing, inner, Blocks, none, other, whole, Blocked}
 use Rattle.rules.specs.CheckLaws.{accepted-checks}
 
--- "At most 128 objects (house), numbered from 0 in book order"
--- how many objects there are in records: one for each 0120
-unfoldable pub objectsIn : List Rec → ℕ
-objectsIn [] = 0
-objectsIn (r ∷ rs) = choose (eqb (r .kind) 0x0120) (λ _. suc (objectsIn rs)) (λ _. objectsIn rs)
-
--- those of two parts together
-objectsIn-append : (bs cs : List Rec) → objectsIn (bs ++ cs) ≡ objectsIn bs + objectsIn cs
-unfolding objectsIn
-objectsIn-append [] cs = omega arith
-objectsIn-append (b ∷ bs) cs = go (eqb (b .kind) 0x0120) (objectsIn (bs ++ cs)) (objectsIn bs) (objectsIn-append bs cs)
-  where
-    go : (t : Bool) (x y : ℕ) → x ≡ y + objectsIn cs → choose t (λ _. suc x) (λ _. x) ≡ choose t (λ _. suc y) (λ _. y) + objectsIn cs
-    go true x y e = omega arith
-    go false x y e = e
-
--- what the marks of a part count: objects, after so many of them; or something else, and then the part has no object
+-- what the marks of a part count: objects of a dump, after so many of them; or something else, and then the part is inside an object or in CIAInfo
 data Counting : Type 0 where
-  after : ℕ → Counting
+  after : List ℕ → ℕ → Counting
   others : Counting
 
 -- the same, behind c marks more
 abbrev further : Counting → ℕ → Counting
-further (after k) c = after (k + c)
+further (after d k) c = after d (k + c)
 further others c = others
 
+-- the kinds that stand there besides 0120: between objects each closes one, inside them none does; and so behind more marks
+abbrev fits : Counting → ℕ → Bool
+fits (after d k) kind = closing kind && not (eqb kind 0x0120)
+fits others kind = not (closing kind)
+
+still : (w : Counting) (c kind : ℕ) → T (fits w kind) → T (fits (further w c) kind)
+still (after d k) c kind h = h
+still others c kind h = h
+
 -- records with their marks
-data Tally (bs : List Rec) (ms : List ℕ) : Counting → Type 0 where
-  few : (k : ℕ) → objectsIn bs ≡ length ms → length ms ≤ 128 - k → Tally bs ms (after k)
-  none : objectsIn bs ≡ 0 → Tally bs ms others
+data Tally : Counting → List Rec → List ℕ → Type 0 where
+  few : {d : List ℕ} {bs : List Rec} {ms : List ℕ} (k : ℕ) → Blocks d bs ms → length ms ≤ 128 - k → Tally (after d k) bs ms
+  closes-none : {bs : List Rec} {ms : List ℕ} → T (inner bs) → Tally others bs ms
 
--- no record; one of another kind in front; records behind records
-empty : {w : Counting} → Tally [] [] w
-unfolding objectsIn
-empty {w = after k} = few k refl (omega arith)
-empty {w = others} = none refl
+-- two tests in one
+both : (a b : Bool) → T a → T b → T (a && b)
+both true b t u = u
+both false b t u = t
 
-abbrev plain : ℕ → Bool
-plain kind = not (eqb kind 0x0120)
+-- no record; one that fits in front; records behind records
+empty : {w : Counting} → Tally w [] []
+empty {w = after d k} = few k none (omega arith)
+empty {w = others} = closes-none tt
 
-objectsIn-plain : (kind : ℕ) (p : List ℕ) (bs : List Rec) → T (plain kind) → objectsIn (rec kind p ∷ bs) ≡ objectsIn bs
-unfolding objectsIn
-objectsIn-plain kind p bs = go (eqb kind 0x0120)
-  where
-    go : (t : Bool) → T (not t) → choose t (λ _. suc (objectsIn bs)) (λ _. objectsIn bs) ≡ objectsIn bs
-    go true h = absurd h
-    go false h = refl
+cons : {w : Counting} {bs : List Rec} {ms : List ℕ} (kind : ℕ) (p : List ℕ) → T (fits w kind) → Tally w bs ms → Tally w (rec kind p ∷ bs) ms
+cons kind p h (few k b l) = few k (other kind p h b) l
+cons kind p h (closes-none {bs = bs} i) = closes-none (both (not (closing kind)) (inner bs) h i)
 
-cons : {w : Counting} {bs : List Rec} {ms : List ℕ} (kind : ℕ) (p : List ℕ) → T (plain kind) → Tally bs ms w → Tally (rec kind p ∷ bs) ms w
-cons {bs = bs} kind p h (few k e l) = few k (objectsIn-plain kind p bs h ∙ e) l
-cons {bs = bs} kind p h (none e) = none (objectsIn-plain kind p bs h ∙ e)
+inner-append : (bs cs : List Rec) → T (inner bs) → T (inner cs) → T (inner (bs ++ cs))
+inner-append [] cs h i = i
+inner-append (b ∷ bs) cs h i = let t = all-both (not (closing (b .kind))) (inner bs) h in both (not (closing (b .kind))) (inner (bs ++ cs)) (t .0) (inner-append bs cs (t .1) i)
 
-append : {w : Counting} {bs cs : List Rec} {ms ns : List ℕ} → Tally bs ms w → Tally cs ns (further w (length ms)) → Tally (bs ++ cs) (ms ++ ns) w
-append (few k e l) (few _ f m) = few k (simp (objectsIn-append, length-append) (omega arith)) (simp length-append (omega arith))
-append (none e) (none f) = none (simp objectsIn-append (omega arith))
+blocks-append : {d : List ℕ} {bs cs : List Rec} {ms ns : List ℕ} → Blocks d bs ms → Blocks d cs ns → Blocks d (bs ++ cs) (ms ++ ns)
+blocks-append none b = b
+blocks-append (other kind p h a) b = other kind p h (blocks-append a b)
+blocks-append (whole o a) b = rw append-assoc (whole o (blocks-append a b))
 
--- what a part answers
-data Good (w : Counting) : Res → Type 0 where
-  refuses : {f : Fault} {p : ℕ} → Good w (fails f p)
-  takes : {bs : List Rec} {ms : List ℕ} {n : ℕ} → Tally bs ms w → Good w (took bs ms n)
+append : {w : Counting} {bs cs : List Rec} {ms ns : List ℕ} → Tally w bs ms → Tally (further w (length ms)) cs ns → Tally w (bs ++ cs) (ms ++ ns)
+append (few k a l) (few _ b m) = few k (blocks-append a b) (simp length-append (omega arith))
+append (closes-none {bs = bs} h) (closes-none {bs = cs} i) = closes-none (inner-append bs cs h i)
 
--- tests, parts behind parts, a record in front, and what is made of a run, a value or an answer
+-- what a part answers: a refusal, or records and marks of which P holds
+data Gives (P : List Rec → List ℕ → Type 0) : Res → Type 0 where
+  refuses : {f : Fault} {p : ℕ} → Gives P (fails f p)
+  takes : {bs : List Rec} {ms : List ℕ} {n : ℕ} → P bs ms → Gives P (took bs ms n)
+
+-- of which the tally holds
+abbrev Good : Counting → Res → Type 0
+Good w = Gives (Tally w)
+
+-- tests
+good-test : {P : List Rec → List ℕ → Type 0} (t : Bool) {x y : Res} → Gives P x → Gives P y → Gives P (choose t (λ _. x) (λ _. y))
+good-test true f g = f
+good-test false f g = g
+
+-- parts behind parts, a record in front, and what is made of a run, a value or an answer
 module _ {w : Counting} where
-  good-test : (t : Bool) {x y : Res} → Good w x → Good w y → Good w (choose t (λ _. x) (λ _. y))
-  good-test true f g = f
-  good-test false f g = g
-
-  good-also : {bs : List Rec} {ms : List ℕ} {r : Res} → Tally bs ms w → Good (further w (length ms)) r → Good w (also bs ms r)
+  good-also : {bs : List Rec} {ms : List ℕ} {r : Res} → Tally w bs ms → Good (further w (length ms)) r → Good w (also bs ms r)
   good-also t refuses = refuses
   good-also t (takes u) = takes (append t u)
 
@@ -114,14 +115,14 @@ module _ {w : Counting} where
   good-counted refuses g = refuses
   good-counted (takes {ms = ms} {n = n} t) g = good-also t (g (length ms) n)
 
-  good-front : (kind : ℕ) (p : List ℕ) {r : Res} → T (plain kind) → Good w r → Good w (also (rec kind p ∷ []) [] r)
+  good-front : (kind : ℕ) (p : List ℕ) {r : Res} → T (fits w kind) → Good w r → Good w (also (rec kind p ∷ []) [] r)
   good-front kind p h refuses = refuses
   good-front kind p h (takes t) = takes (cons kind p h t)
 
-  good-one : (kind : ℕ) (p : List ℕ) {n : ℕ} → T (plain kind) → Good w (took (rec kind p ∷ []) [] n)
+  good-one : (kind : ℕ) (p : List ℕ) {n : ℕ} → T (fits w kind) → Good w (took (rec kind p ∷ []) [] n)
   good-one kind p h = takes (cons kind p h empty)
 
-  good-keep : (kind : ℕ) (p : List ℕ) (e : ℕ) (r : Run) → T (plain kind) → Good w (keep (rec kind p ∷ []) e r)
+  good-keep : (kind : ℕ) (p : List ℕ) (e : ℕ) (r : Run) → T (fits w kind) → Good w (keep (rec kind p ∷ []) e r)
   good-keep kind p e (Ends i) h = good-one kind p h
   good-keep kind p e (Refused f i) h = refuses
 
@@ -129,7 +130,7 @@ module _ {w : Counting} where
   good-surplus at (No f p) = refuses
   good-surplus at (At t a e) = refuses
 
-  good-valued : (r : Row) (at e : ℕ) (v : Val) → T (plain (r .kind)) → Good w (valued r at e v)
+  good-valued : (r : Row) (at e : ℕ) (v : Val) → T (fits w (r .kind)) → Good w (valued r at e v)
   good-valued r at e (good p) h = good-one (r .kind) p h
   good-valued r at e (wrong f) h = refuses
 
@@ -149,18 +150,25 @@ unfolding repeat
 good-repeat v q more f end item zero k at = good-test (more end at) refuses (takes empty)
 good-repeat v q more f end item (suc g) k at = good-test (more end at) (good-counted (item k at) (λ c j. rw (q k c) (good-repeat v q more f end item g (k + c) j))) (takes empty)
 
--- no row has an object's kind
+-- no row has a kind that closes an object
 abbrev plainRows : List Row → Bool
 plainRows [] = true
-plainRows (r ∷ rs) = plain (r .kind) && plainRows rs
+plainRows (r ∷ rs) = fits others (r .kind) && plainRows rs
 
--- an object is counted by its place, whatever is inside it
-one-object : {k : ℕ} → k < 128 → (at : ℕ) (p : List ℕ) {r : Res} → Good others r → Good (after k) (counts at (also (rec 0x0120 p ∷ []) [] r))
-unfolding objectsIn
+-- an object, the one after k others, is counted by its place, whatever is inside it
+data Sole (k at : ℕ) : List Rec → List ℕ → Type 0 where
+  sole : {p : List ℕ} {rs : List Rec} → k < 128 → T (inner rs) → Sole k at (rec 0x0120 p ∷ rs) (at ∷ [])
+
+one-object : {k : ℕ} → k < 128 → (at : ℕ) (p : List ℕ) {r : Res} → Good others r → Gives (Sole k at) (counts at (also (rec 0x0120 p ∷ []) [] r))
 one-object h at p refuses = refuses
-one-object {k} h at p (takes (none e)) = takes {ms = at ∷ []} (few k (ap suc e) (omega arith))
+one-object h at p (takes (closes-none i)) = takes (sole h i)
 
--- parts and insides of elements that have no object
+-- and so it is a block
+block : (d : List ℕ) (entry k end at : ℕ) {r : Res} → object d entry k end at ≡ r → Gives (Sole k at) r → Good (after d k) r
+block d entry k end at e refuses = refuses
+block d entry k end at e (takes {n = n} (sole h i)) = takes (few k (rw append-nil at (whole (record { entry = entry; nth = k; end = end; behind = n; reads = e; inside = i }) none)) (omega arith))
+
+-- parts and insides of elements inside an object, or in CIAInfo
 abbrev Free : Reader → Type 0
 Free p = (end at : ℕ) → Good others (p end at)
 
@@ -176,26 +184,26 @@ free-inside f at a e = f e a
 -- the marks of conditions, of which there may be any number
 free-quiet : {r : Res} → Good others r → Good others (quiet r)
 free-quiet refuses = refuses
-free-quiet (takes (none e)) = takes (none e)
+free-quiet (takes (closes-none i)) = takes (closes-none i)
 
 free-counts : (at : ℕ) {r : Res} → Good others r → Good others (counts at r)
 free-counts at refuses = refuses
-free-counts at (takes (none e)) = takes (none e)
+free-counts at (takes (closes-none i)) = takes (closes-none i)
 
-free-listed : (kind e : ℕ) {r : Res} → T (plain kind) → Good others r → Good others (listed kind e r)
+free-listed : (kind e : ℕ) {r : Res} → T (fits others kind) → Good others r → Good others (listed kind e r)
 free-listed kind e h refuses = refuses
-free-listed kind e h (takes {ms = ms} (none x)) = good-test (leb 2 (length ms)) (takes (cons kind (le16 (length ms)) h (none x))) refuses
+free-listed kind e h (takes {ms = ms} (closes-none i)) = good-test (leb 2 (length ms)) (takes (cons kind (le16 (length ms)) h (closes-none i))) refuses
 
 free-repeat : {f : ℕ → Reader} → ((k : ℕ) → Free (f k)) → (end at : ℕ) → Good others (repeat toEnd f (end - at) 0 end at)
 free-repeat {f} h end at = good-repeat (λ _. others) (λ _ _. refl) toEnd f end (λ k i. h k end i) (end - at) 0 at
 
 module _ (s : List ℕ) where
-  -- elements, components, rests and fill, with records of other kinds
-  good-element : {w : Counting} {b : ℕ → Body} → ((t i a e : ℕ) → Good w (b t i a e)) → (end at : ℕ) → Good w (element s b end at)
+  -- elements, components, rests and fill
+  good-element : {P : ℕ → List Rec → List ℕ → Type 0} {b : ℕ → Body} → ((t i a e : ℕ) → Gives (P i) (b t i a e)) → (end at : ℕ) → Gives (P at) (element s b end at)
   unfolding element
-  good-element {w} {b} f end at = good-test (ltb at end) (go (header s at end)) refuses
+  good-element {P} {b} f end at = good-test (ltb at end) (go (header s at end)) refuses
     where
-      go : (h : Head) → Good w (whatever b at h)
+      go : (h : Head) → Gives (P at) (whatever b at h)
       go (No x p) = refuses
       go (At t a e) = f t at a e
 
@@ -212,22 +220,22 @@ module _ (s : List ℕ) where
       go (No x p) = refuses
       go (At t a e) = good-test (eqb t tag) (f at a e) (lacks need refuses)
 
-  good-components : {w : Counting} (rows : List Row) → T (plainRows rows) → (end at : ℕ) → Good w (components s rows end at)
+  good-components : (rows : List Row) → T (plainRows rows) → Free (components s rows)
   unfolding components rowBody
   good-components [] h end at = takes empty
   good-components (r ∷ rs) h end at =
-      let i = all-both (plain (r .kind)) (plainRows rs) h in
+      let i = all-both (fits others (r .kind)) (plainRows rs) h in
       good-then (good-component (r .tag) (r .need) (λ j a e. good-valued r j e (judged r (slice a e s) (value (r .form) (slice a e s))) (i .0)) end at) (λ _ n. good-components rs (i .1) end n)
 
   good-ended : {w : Counting} (end at : ℕ) → Good w (ended s end at)
   unfolding ended
   good-ended end at = good-test (ltb at end) (good-surplus at (header s at end)) (takes empty)
 
-  good-rest : {w : Counting} (kind : ℕ) (tags : List ℕ) → T (plain kind) → (end at : ℕ) → Good w (rest s kind tags end at)
+  good-rest : {w : Counting} (kind : ℕ) (tags : List ℕ) → T (fits w kind) → (end at : ℕ) → Good w (rest s kind tags end at)
   unfolding rest
   good-rest kind tags h end at = good-test (ltb at end) (good-keep kind (slice at end s) end (sealedRun 16 s tags at end) h) (takes empty)
 
-  good-sealed : {w : Counting} (kind : ℕ) (front : List ℕ) → T (plain kind) → (t at a e : ℕ) → Good w (sealed s kind front t at a e)
+  good-sealed : {w : Counting} (kind : ℕ) (front : List ℕ) → T (fits w kind) → (t at a e : ℕ) → Good w (sealed s kind front t at a e)
   unfolding sealed
   good-sealed kind front h t at a e = good-keep kind (front ++ slice at e s) e (innerRun s t a e) h
 
@@ -236,12 +244,15 @@ module _ (s : List ℕ) where
   good-filled b zero end at = takes empty
   good-filled b (suc g) end at = good-test (eqb (getD s at 0) b) (good-filled b g end (at + 1)) refuses
 
-  good-fill : {w : Counting} (kind : ℕ) → T (plain kind) → (end at : ℕ) → Good w (fill s kind end at)
+  good-fill : {w : Counting} (kind : ℕ) → T (fits w kind) → (end at : ℕ) → Good w (fill s kind end at)
   unfolding fill
-  good-fill kind h end at = good-test (ltb at end) (good-then (good-filled (getD s at 0) (end - at) end at) (λ _ n. good-one kind (getD s at 0 ∷ le16 (end - at)) h)) (takes empty)
+  good-fill {w} kind h end at = good-test (ltb at end) (good-then (good-filled (getD s at 0) (end - at) end at) (λ c n. good-one kind (getD s at 0 ∷ le16 (end - at)) (still w c kind h))) (takes empty)
+
+  free-element : {b : ℕ → Body} → ((t : ℕ) → FreeBody (b t)) → Free (element s b)
+  free-element = good-element
 
   -- all that stands in an object, and CIAInfo
-  ruleset free = (free-then, free-inside, good-paired, good-flagged, good-element, good-component, good-components, good-ended, good-rest, good-sealed)
+  ruleset free = (free-then, free-inside, good-paired, good-flagged, free-element, good-component, good-components, good-ended, good-rest, good-sealed)
 
   free-path : FreeBody (path s)
   unfolding path
@@ -314,50 +325,51 @@ module _ (s : List ℕ) where
   free-cia = free-then (λ end at. good-test (toFill s end at) (search free) refuses) (λ end at. good-test (toFill s end at) (good-surplus at (header s at end)) (good-fill 0x0108 tt end at))
 
   -- objects, entries and files, each after those before it
-  good-object : (entry k end at : ℕ) → Good (after k) (object s entry k end at)
+  sole-object : (entry k end at : ℕ) → Gives (Sole k at) (object s entry k end at)
   unfolding object objectBody
-  good-object entry k end at = by-choose (Good (after k)) (ltb k 128)
+  sole-object entry k end at = by-choose (Gives (Sole k at)) (ltb k 128)
       (λ _ h. good-element (λ t i a e. good-test (eqb t 0x30 || (leb 0xa0 t && leb t 0xa7)) (one-object (ltb-true k 128 h) i (entry ∷ t ∷ []) (free-contents entry t e a)) refuses) end at)
       (λ _ _. refuses)
 
-  good-objects : (more : ℕ → ℕ → Bool) (entry k end at : ℕ) → Good (after k) (objects s more entry k end at)
+  good-objects : (more : ℕ → ℕ → Bool) (entry k end at : ℕ) → Good (after s k) (objects s more entry k end at)
   unfolding objects
-  good-objects more entry k end at = good-repeat after (λ _ _. refl) more (object s entry) end (λ j i. good-object entry j end i) (end - at) k at
+  good-objects more entry k end at = good-repeat (after s) (λ _ _. refl) more (object s entry) end (λ j i. block s entry j end i refl (sole-object entry j end i)) (end - at) k at
 
-  good-inside : (entry k t at a e : ℕ) → Good (after k) (entryInside s entry k t at a e)
+  good-inside : (entry k t at a e : ℕ) → Good (after s k) (entryInside s entry k t at a e)
   unfolding entryInside namedPath
   good-inside entry k t at a e =
       good-test (eqb t 0x30)
       (good-then (good-component 0x04 Required (λ i b f. good-test (leb 1 (f - b) && leb (f - b) 64) (good-one 0x0110 (entry ∷ 0 ∷ slice b f s) tt) refuses) e a) (λ _ n. good-ended e n))
       (good-test (eqb t 0xa0) (good-front 0x0110 (entry ∷ 1 ∷ []) tt (good-objects toEnd entry k e a)) refuses)
 
-  good-entry : (k t at a e : ℕ) → Good (after k) (entryBody s k t at a e)
+  good-entry : (k t at a e : ℕ) → Good (after s k) (entryBody s k t at a e)
   unfolding entryBody
   good-entry k t at a e =
       good-test (leb 0xa0 t && leb t 0xa8) (good-then (good-element (good-inside t k) e a) (λ _ n. good-ended e n))
       (good-test (leb 0x80 t && leb t 0xbf) (good-sealed 0x0110 (t ∷ 2 ∷ []) tt t at a e) refuses)
 
-  good-od : (end at : ℕ) → Good (after 0) (od s end at)
+  good-od : (end at : ℕ) → Good (after s 0) (od s end at)
   unfolding od
-  good-od end at = good-then (good-repeat after (λ _ _. refl) (toFill s) (λ k. element s (entryBody s k)) end (λ k i. good-element (good-entry k) end i) (end - at) 0 at) (λ _ n. good-fill 0x0107 tt end n)
+  good-od end at = good-then (good-repeat (after s) (λ _ _. refl) (toFill s) (λ k. element s (entryBody s k)) end (λ k i. good-element (good-entry k) end i) (end - at) 0 at) (λ _ n. good-fill 0x0107 tt end n)
 
-  good-directory : (entry k end at : ℕ) → Good (after k) (directory s entry k end at)
+  good-directory : (entry k end at : ℕ) → Good (after s k) (directory s entry k end at)
   unfolding directory
   good-directory entry k end at = good-then (good-front 0x0118 [] tt (good-objects (toFill s) entry k end at)) (λ _ n. good-fill 0x0107 tt end n)
 
-  good-directories : (ns : List Name) (fs : List File) (k : ℕ) → Good (after k) (directories s ns fs k)
+  good-directories : (ns : List Name) (fs : List File) (k : ℕ) → Good (after s k) (directories s ns fs k)
   unfolding directories
   good-directories [] fs k = takes empty
   good-directories (n ∷ ns) [] k = takes empty
   good-directories (n ∷ ns) (f ∷ fs) k = good-counted (good-directory (n .tag) k (f .stop) (f .start)) (λ c _. good-directories ns fs (k + c))
 
 -- CIAInfo's records, EF.OD's, and the files'
-together : {bs cs ds : List Rec} {ls ms ns : List ℕ} {i j k : ℕ} → Good others (took bs ls i) → Good (after 0) (took cs ms j) → Good (after (length ms)) (took ds ns k) → objectsIn (bs ++ (cs ++ ds)) ≤ 128
-together (takes (none e)) (takes (few _ f l)) (takes (few _ g m)) = simp objectsIn-append (omega arith)
+together : {d : List ℕ} {bs cs ds : List Rec} {ls ms ns : List ℕ} {i j k : ℕ} → Good others (took bs ls i) → Good (after d 0) (took cs ms j) → Good (after d (length ms)) (took ds ns k) → Blocked d (bs ++ (cs ++ ds))
+together {bs = bs} {cs} {ds} {ms = ms} {ns} (takes (closes-none h)) (takes (few _ a l)) (takes (few _ b m)) =
+    record { info = bs; others = cs ++ ds; places = ms ++ ns; whole = refl; outside = h; blocks = blocks-append a b; few = simp length-append (omega arith) }
 
--- an accepted book has no more objects than that
-pub few-objects : (d : List ℕ) (rs : List Rec) → readDump d ≡ accepted rs → objectsIn rs ≤ 128
-few-objects d rs e =
+-- "At most 128 objects (house), numbered from 0 in book order": an accepted book has each whole, and no more than that
+pub blocked : (d : List ℕ) (rs : List Rec) → readDump d ≡ accepted rs → Blocked d rs
+blocked d rs e =
     let w = accepted-checks d rs .0 e in
     rw (w .whole) (together
     (rw (w .info-read) at (free-cia d (w .info .stop) (w .info .start)))
