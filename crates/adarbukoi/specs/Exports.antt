@@ -24,20 +24,14 @@ pub record Told (r : Outcome) (c n : ℕ) : Type 0 where
   pub code : c ≡ codeOf r
   pub number : n ≡ numberIn r
 
+-- what a service may answer, and what it then leaves in the lent slice, which was a and is b
+abbrev pub Service : Type 1
+Service = List ℕ → List ℕ → List ℕ → Outcome → Type 0
+
 -- the service's own answer, told so
-pub record ReadExported (s a b : List ℕ) (c n : ℕ) : Type 0 where
+pub record Exported (service : Service) (s a b : List ℕ) (c n : ℕ) : Type 0 where
   pub answer : Outcome
-  pub served : ReadTold s a b answer
-  pub told : Told answer c n
-
-pub record WriteExported (s a b : List ℕ) (c n : ℕ) : Type 0 where
-  pub answer : Outcome
-  pub served : WriteTold s a b answer
-  pub told : Told answer c n
-
-pub record ListExported (s a b : List ℕ) (c n : ℕ) : Type 0 where
-  pub answer : Outcome
-  pub served : ListTold s a b answer
+  pub served : service s a b answer
   pub told : Told answer c n
 
 -- a field's place: its offset and length; or the refusal's place, and the length is what it was
@@ -63,18 +57,22 @@ pub record FieldExported (b : List ℕ) (i k c n l m : ℕ) : Type 0 where
   pub served : PlaceTold b i k answer
   pub told : PlaceSaid answer c n l m
 
--- any two results that a contract allows are equal
-same-told : {q r : Outcome} {c d n m : ℕ} → q ≡ r → Told q c n → Told r d m → (c ≡ d) × (n ≡ m)
-same-told e t u = (t .code ∙ ap codeOf e ∙ sym (u .code), t .number ∙ ap numberIn e ∙ sym (u .number))
+-- any two results that a contract allows are equal, since the service's are
+one-exported : {service : Service} {s a b e : List ℕ} {c d n m : ℕ} → ((q r : Outcome) → service s a b q → service s a e r → (q ≡ r) × (b ≡ e)) → Exported service s a b c n → Exported service s a e d m → (b ≡ e) × (c ≡ d) × (n ≡ m)
+one-exported one h g =
+    let w = one (h .answer) (g .answer) (h .served) (g .served) in
+    let t = h .told in
+    let u = g .told in
+    (w .1, t .code ∙ ap codeOf (w .0) ∙ sym (u .code), t .number ∙ ap numberIn (w .0) ∙ sym (u .number))
 
-pub one-read-exported : {s a b e : List ℕ} {c d n m : ℕ} → ReadExported s a b c n → ReadExported s a e d m → (b ≡ e) × (c ≡ d) × (n ≡ m)
-one-read-exported h g = let w = one-read (h .served) (g .served) in let v = same-told (w .0) (h .told) (g .told) in (w .1, v .0, v .1)
+pub one-read-exported : {s a b e : List ℕ} {c d n m : ℕ} → Exported ReadTold s a b c n → Exported ReadTold s a e d m → (b ≡ e) × (c ≡ d) × (n ≡ m)
+one-read-exported = one-exported (λ q r. one-read)
 
-pub one-write-exported : {s a b e : List ℕ} {c d n m : ℕ} → WriteExported s a b c n → WriteExported s a e d m → (b ≡ e) × (c ≡ d) × (n ≡ m)
-one-write-exported h g = let w = one-write (h .served) (g .served) in let v = same-told (w .0) (h .told) (g .told) in (w .1, v .0, v .1)
+pub one-write-exported : {s a b e : List ℕ} {c d n m : ℕ} → Exported WriteTold s a b c n → Exported WriteTold s a e d m → (b ≡ e) × (c ≡ d) × (n ≡ m)
+one-write-exported = one-exported (λ q r. one-write)
 
-pub one-list-exported : {s a b e : List ℕ} {c d n m : ℕ} → ListExported s a b c n → ListExported s a e d m → (b ≡ e) × (c ≡ d) × (n ≡ m)
-one-list-exported h g = let w = one-list (h .served) (g .served) in let v = same-told (w .0) (h .told) (g .told) in (w .1, v .0, v .1)
+pub one-list-exported : {s a b e : List ℕ} {c d n m : ℕ} → Exported ListTold s a b c n → Exported ListTold s a e d m → (b ≡ e) × (c ≡ d) × (n ≡ m)
+one-list-exported = one-exported (λ q r. one-list)
 
 pub one-field-exported : {b : List ℕ} {i k c d n m l x y : ℕ} → FieldExported b i k c n l x → FieldExported b i k d m l y → (c ≡ d) × (n ≡ m) × (x ≡ y)
 one-field-exported {l = l} h g =

@@ -2,7 +2,9 @@
 use elements::number_of;
 use layouts::Outcome;
 use links::Place;
-ghost use Rattle.adarbukoi.specs.Exports.{Told, ReadExported, WriteExported, ListExported, PlaceSaid, FieldExported};
+ghost use Rattle.layouts.specs.Service.{ReadTold, WriteTold};
+ghost use Rattle.links.specs.Serving.{ListTold};
+ghost use Rattle.adarbukoi.specs.Exports.{Told, Exported, PlaceSaid, FieldExported};
 
 // 0 with the length, or the refusal's number with its place.
 fn tell(r: Outcome, number: &mut u64) -> u32
@@ -23,7 +25,7 @@ fn tell(r: Outcome, number: &mut u64) -> u32
 // A dump into a book.
 #[no_mangle]
 pub extern "C" fn adarbukoi_read(dump: &[u8], book: &mut [u8], told: &mut u64) -> u32
-    ensures { λ c. ⌜ ReadExported (now (dump .entry)) (now (book .entry)) (now (book .exit)) c (now (told .exit)) ⌝ }
+    ensures { λ c. ⌜ Exported ReadTold (now (dump .entry)) (now (book .entry)) (now (book .exit)) c (now (told .exit)) ⌝ }
 {
     tell(layouts::read(dump, book), told)
 }
@@ -31,7 +33,7 @@ pub extern "C" fn adarbukoi_read(dump: &[u8], book: &mut [u8], told: &mut u64) -
 // A book into the dump that has it.
 #[no_mangle]
 pub extern "C" fn adarbukoi_write(book: &[u8], dump: &mut [u8], told: &mut u64) -> u32
-    ensures { λ c. ⌜ WriteExported (now (book .entry)) (now (dump .entry)) (now (dump .exit)) c (now (told .exit)) ⌝ }
+    ensures { λ c. ⌜ Exported WriteTold (now (book .entry)) (now (dump .entry)) (now (dump .exit)) c (now (told .exit)) ⌝ }
 {
     tell(layouts::write(book, dump), told)
 }
@@ -39,7 +41,7 @@ pub extern "C" fn adarbukoi_write(book: &[u8], dump: &mut [u8], told: &mut u64) 
 // The links of a book into lent numbers, four a row.
 #[no_mangle]
 pub extern "C" fn adarbukoi_list(book: &[u8], rows: &mut [u32], told: &mut u64) -> u32
-    ensures { λ c. ⌜ ListExported (now (book .entry)) (now (rows .entry)) (now (rows .exit)) c (now (told .exit)) ⌝ }
+    ensures { λ c. ⌜ Exported ListTold (now (book .entry)) (now (rows .entry)) (now (rows .exit)) c (now (told .exit)) ⌝ }
 {
     tell(links::list(book, rows), told)
 }

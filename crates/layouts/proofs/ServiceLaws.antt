@@ -1,39 +1,21 @@
 -- What a service hands over.
-use Rattle.elements.specs.Lists.{count-take}
-use Prim.Native.Nat.{ℕ, _<_, _≤_}
-use mathlib.Core.Path.{_≡_, refl, sym, _∙_}
+use Prim.Native.Nat.{ℕ, _≤_}
+use mathlib.Core.Path.{_≡_, refl, _∙_}
 use mathlib.Core.List.{List, []}
 use native.Mathlib.Omega.{arith}
-use lib.ListN.{length, take, drop}
-use lib.Seq.{slice}
-use borrow.Author.Tests.{le-leb, lt-leb}
+use lib.ListN.{length, take}
 use Rattle.elements.specs.declared.fault.Fault.{Fault}
-use Rattle.elements.specs.declared.fault.Fault.the-variants.{NoRoom, NoDump}
-use Rattle.elements.specs.Put.{Put}
-use Rattle.elements.specs.PutLaws.{put-length, put-fits, put-upto}
+use Rattle.elements.specs.declared.fault.Fault.the-variants.{NoDump}
+use Rattle.elements.specs.PutLaws.{put-length, put-upto}
 use Rattle.rules.specs.declared.outcome.Outcome.{Outcome}
 use Rattle.rules.specs.declared.outcome.Outcome.the-variants.{Accepted, Refused}
-use Rattle.rules.specs.Reading.{Rec}
-use Rattle.rules.specs.Files.{Answer, accepted, refused, readDump}
-use Rattle.rules.specs.Book.{encode}
+use Rattle.rules.specs.Files.{Answer, readDump}
 use Rattle.layouts.specs.declared.accept.Candidate.{Candidate}
 use Rattle.layouts.specs.declared.accept.Candidate.the-variants.{Dump, None}
 use Rattle.rules.specs.Write.{writeDump}
 use Rattle.layouts.specs.Accept.{Tried, holds, none}
 use Rattle.reader.specs.Stages.{Reads, reads, falls}
 use Rattle.layouts.specs.Service.{served, giving, byAnswer, reading, ReadTold, byWritten, writing, WriteTold, Gives}
-
-module _ (from : List ℕ) (n : ℕ) (long : n ≤ length from) where
-  pub gives-none : {a : List ℕ} → length a < n → Gives (take n from) a a (Refused NoRoom n)
-  unfolding giving
-  gives-none {a} h = record { is = rw (← count-take n from long, lt-leb n (length a) h) refl }
-
-  pub gives-all : {a b : List ℕ} {p : ℕ} → n ≤ length a → Put a b 0 p (slice 0 n from) → Gives (take n from) a b (Accepted n)
-  unfolding giving
-  gives-all {a} {b} {p} h f =
-      let l = count-take n from long in
-      let q : p ≡ n = omega (arith, f .at) in
-      record { is = rw (← l, le-leb n (length a) h, put-fits f (omega arith), q) refl }
 
 module _ (s : List ℕ) {z w : List ℕ} {x : Outcome} (d : Reads [] z w 0 (readDump s) x) where
   pub read-refused : {a : List ℕ} {f : Fault} {p : ℕ} → x ≡ Refused f p → ReadTold s a a (Refused f p)

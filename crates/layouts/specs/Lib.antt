@@ -1,3 +1,4 @@
 pub mod Service
+pub mod GivingLaws
 pub mod RoundTrip
 pub mod Accept
