@@ -10,7 +10,6 @@ use borrow.Author.Tests.{lt-leb}
 use Rattle.elements.specs.declared.fault.Fault.{Fault}
 use Rattle.elements.specs.Choice.{choose}
 use Rattle.elements.specs.Lists.{Bytes}
-use Rattle.elements.specs.Put.{Put}
 use Rattle.elements.specs.PutLaws.{put-length, put-upto}
 use Rattle.rules.specs.declared.outcome.Outcome.{Outcome}
 use Rattle.rules.specs.declared.outcome.Outcome.the-variants.{Accepted, Refused}
@@ -18,7 +17,7 @@ use Rattle.writer.specs.declared.made.Made.{Made}
 use Rattle.writer.specs.declared.made.Made.the-variants.{Took, Long}
 use Rattle.layouts.specs.declared.accept.Candidate.{Candidate}
 use Rattle.layouts.specs.declared.accept.Candidate.the-variants.{Dump, None}
-use Rattle.rules.specs.Files.{Answer, accepted, refused, equal, readDump}
+use Rattle.rules.specs.Files.{Answer, equal, readDump}
 use Rattle.rules.specs.Book.{encode, records}
 use Rattle.rules.specs.Render.{render}
 use Rattle.rules.specs.Write.{written, noBook, confirmed, writeDump}

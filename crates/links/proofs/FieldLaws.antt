@@ -1,27 +1,19 @@
 -- A field is sought object by object, and its payload is a part of the book.
 use Prim.Native.Nat.{ℕ, zero, suc, _+_, _-_, _<_, _≤_}
-use mathlib.Core.Path.{_≡_, refl, sym, ap, _∙_}
-use mathlib.Core.Logic.{_⊎_, inl, inr}
-use mathlib.Core.Bool.{Bool, true, false, _&&_}
+use mathlib.Core.Path.{_≡_, refl, _∙_}
 use mathlib.Core.List.{List, [], _∷_}
 use native.Mathlib.Omega.{arith}
 use lib.ListN.{length}
-use lib.Seq.{slice, length-slice}
-use lib.Dec.{leb, eqb}
-use borrow.Author.Tests.{leb-true, leb-false}
-use Rattle.elements.specs.Choice.{choose}
-use Rattle.elements.specs.declared.fault.Fault.{Fault}
-use Rattle.elements.specs.declared.fault.Fault.the-variants.{NotThere, NoDump}
-use Rattle.rules.specs.Files.{two}
-use Rattle.rules.specs.Book.{records, recordsFrom, Ends}
-use Rattle.rules.specs.BookLaws.{from-few, ends-least, ends-good, ends-cut}
-use Rattle.rules.specs.Write.{Written, written, noBook, writeDump}
+use lib.Seq.{length-slice}
+use Rattle.elements.specs.declared.fault.Fault.the-variants.{NotThere}
+use Rattle.rules.specs.Book.{Ends}
+use Rattle.rules.specs.BookLaws.{from-few}
 use Rattle.links.specs.declared.fields.Place.{Place}
 use Rattle.links.specs.declared.fields.Place.the-variants as place
-use Rattle.links.specs.Links.{Held, held, Object, heldFrom, objectsFrom, Found, none, found, firstOf, Chosen, nobody, chosen, objectAt, fieldIn, fieldOf}
-use Rattle.links.specs.Finding.{Within, objectsAt, heldAt, objectThere, heldThere, NextObject, FoundAt}
+use Rattle.links.specs.Links.{objectsFrom, Found, none, found, firstOf, objectAt, fieldIn}
+use Rattle.links.specs.Finding.{Within, objectsAt, heldAt, objectThere, NextObject, FoundAt}
 use Rattle.links.proofs.ObjectLaws.{within-end}
-use Rattle.links.specs.Serving.{ifBook, placeOf, PlacedAt, placing, PlaceTold, payOf, handing, FieldTold}
+use Rattle.links.specs.Serving.{placeOf, PlacedAt}
 
 -- the payload of what was found, or not
 pub payload-none : (b : List ℕ) (p : ℕ) → length b < p + 4 → PlacedAt b p (place.Refused NotThere 0)

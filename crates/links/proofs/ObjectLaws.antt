@@ -1,22 +1,18 @@
 -- Objects and their records, sought record by record.
 use Prim.Native.Nat.{ℕ, _+_, _<_, _≤_}
 use mathlib.Core.Path.{_≡_, refl, _∙_}
-use mathlib.Core.List.{List, [], _∷_}
+use mathlib.Core.List.{List}
 use mathlib.Core.Bool.{Bool, true, false}
 use native.Mathlib.Omega.{arith}
 use lib.ListN.{length}
-use lib.Seq.{slice, length-slice}
-use lib.Dec.{eqb}
 use borrow.Author.Tests.{eq-eqb, ne-eqb}
-use Rattle.elements.specs.Choice.{choose}
-use Rattle.elements.specs.ChoiceLaws.{by-less}
 use Rattle.rules.specs.Files.{two}
 use Rattle.rules.specs.Book.{Ends}
-use Rattle.rules.specs.BookLaws.{from-few, ends-least, ends-good, ends-cut}
+use Rattle.rules.specs.BookLaws.{from-few}
 use Rattle.rules.specs.Blocks.{closing}
 use Rattle.links.specs.Links.{heldFrom, objectsFrom, Found, firstOf}
 use Rattle.links.specs.FindingLaws.{objects-first, held-first, some-end}
-use Rattle.links.specs.Finding.{Within, objectsAt, heldAt, objectThere, heldThere, NextObject, FoundAt}
+use Rattle.links.specs.Finding.{Within, objectsAt, heldAt, NextObject, FoundAt}
 
 -- where it ends is a place
 pub within-end : {b : List ℕ} {i j e : ℕ} → Within b i → Ends b j e → Within b e

@@ -1,12 +1,12 @@
 -- Rows put into lent numbers, list by list: those of a link's answers.
-use Prim.Native.Nat.{ℕ, zero, suc, _+_, _*_, _<_, _≤_}
-use mathlib.Core.Path.{_≡_, refl}
+use Prim.Native.Nat.{ℕ, zero, suc, _+_, _-_, _*_, _<_, _≤_}
+use mathlib.Core.Path.{_≡_, refl, _∙_}
 use mathlib.Core.List.{List, [], _∷_, _++_, map, append-assoc, append-nil}
 use mathlib.Core.Bool.{Bool, true, false}
 use native.Mathlib.Numerals.{add-one}
 use native.Mathlib.Omega.{arith}
-use lib.ListN.{length, getD, drop}
-use lib.Seq.{slice, drop-length}
+use lib.ListN.{length, getD, drop, drop-of-length-le}
+use lib.Seq.{slice}
 use Rattle.elements.specs.Put.{Put}
 use Rattle.elements.specs.PutLaws.{put-none, put-put, put-length}
 use Rattle.elements.specs.Choice.{choose}
@@ -14,6 +14,7 @@ use Rattle.rules.specs.Files.{equal}
 use Rattle.rules.specs.Book.{Ends}
 use Rattle.links.specs.Links.{Object, answering, bears, answers, by, Row, row, rowsOf, listed, chosen, objectAt}
 use Rattle.links.specs.Finding.{Within, objectsAt, Indexed, AnswerTold, RowsPut}
+use Rattle.links.specs.Chains.{keyOf, keyAt, Key, Leads, Chained, answers-lead}
 
 -- four numbers put one after the other
 pub put-four : {a b c d e : List ℕ} {o p q r s w x y z : ℕ} → Put a b o p (w ∷ []) → Put b c p q (x ∷ []) → Put c d q r (y ∷ []) → Put d e r s (z ∷ []) → Put a e o s (w ∷ x ∷ y ∷ z ∷ [])
@@ -73,62 +74,71 @@ at-number [] j h = absurd (omega arith)
 at-number (o ∷ os) zero h = (o, refl, refl)
 at-number (o ∷ os) (suc j) h = at-number os j (omega arith)
 
--- the loop of `put_answers`: the rows of the answers among the first j objects are put
+-- the loop of `put_answers`: the rows of the answers before object j are put, and j is in the identifier's chain
 pub record Answering (b : List ℕ) (p e link i n : ℕ) (a c : List ℕ) (o j q : ℕ) : Type 0 where
-  pub upto : j ≤ n
   pub few : q ≤ o + 4 * j
+  pub most : q ≤ o + 4 * n
+  pub here : j < n → keyAt b j ≡ keyOf (slice (p + 4) e b)
   pub partly : Partly a c o q (byRows link i p (answersFrom b p e link 0)) (byRows link i p (answersFrom b p e link j))
 
-pub answering-none : (b a : List ℕ) (p e link i n o : ℕ) → Answering b p e link i n a a o 0 o
-answering-none b a p e link i n o = record { upto = omega arith; few = omega arith; partly = partly-none a o _ }
+module _ {b chains : List ℕ} {p e h n : ℕ} (k : Key (slice (p + 4) e b) h) (g : Chained b chains n 0) where
+  pub answering-none : (a : List ℕ) (link i o : ℕ) → Answering b p e link i n a a o (getD chains h 0) o
+  answering-none a link i o = record { few = omega arith; most = omega arith; here = lead .here; partly = rw (answers-lead link (slice (p + 4) e b) lead) (partly-none a o _) }
+    where
+      lead : Leads b n (keyOf (slice (p + 4) e b)) 0 (getD chains h 0)
+      lead = rw (k .is) (g .first h (k .small))
 
-module _ {b entries places : List ℕ} {p e link i n : ℕ} {a c : List ℕ} {o j q : ℕ} (x : Indexed b entries places n) (w : Answering b p e link i n a c o j q) where
-  -- a place of the index is one
-  pub answering-place : Within b e → j < n → Within b (getD places j 0)
-  answering-place v h =
-      let z = at-number (objectsAt b 0) j (omega arith) in
-      record { high = x .index .are j (z .0) h (z .1) .id .high; small = v .small }
+  module _ {link i : ℕ} {a c : List ℕ} {o j q : ℕ} (w : Answering b p e link i n a c o j q) (l : j < n) where
+    -- the next one in the chain
+    lead : Leads b n (keyOf (slice (p + 4) e b)) (j + 1) (getD chains (256 + j) 0)
+    lead = rw (k .is) (g .next j h (omega arith) l (k .small) (w .here l ∙ k .is))
 
-  -- the j-th object is told
-  module _ {t : Bool} (h : j < n) (v : AnswerTold b p e link (getD entries j 0) (getD places j 0) t) where
-    first : answersFrom b p e link j ≡ choose t (λ _. j ∷ answersFrom b p e link (j + 1)) (λ _. answersFrom b p e link (j + 1))
-    unfolding answers bears
-    first =
-        let z = at-number (objectsAt b 0) j (omega arith) in
-        let y = x .index .are j (z .0) h (z .1) in
-        rw (add-one, z .2, y .tag, v .is _ (y .id)) refl
+    pub answering-less : n - getD chains (256 + j) 0 < n - j
+    answering-less = omega (arith, lead .low)
 
-    pub answering-more : {d : List ℕ} {r : ℕ} → t ≡ true → Put c d q r (link ∷ i ∷ p ∷ j ∷ []) → Answering b p e link i n a d o (j + 1) r
-    unfolding listed
-    answering-more u f = record {
-      upto = omega arith;
-      few = omega arith;
-      partly = partly-more (w .partly) {xs = row link i p (by j) ∷ []} _ (record { put = f }) (rw (first, u) refl);
-    }
+    -- the j-th object is told
+    module _ {entries places : List ℕ} {t : Bool} (x : Indexed b entries places n) (v : AnswerTold b p e link (getD entries j 0) (getD places j 0) t) where
+      first : answersFrom b p e link j ≡ choose t (λ _. j ∷ answersFrom b p e link (getD chains (256 + j) 0)) (λ _. answersFrom b p e link (getD chains (256 + j) 0))
+      unfolding answers bears
+      first =
+          let z = at-number (objectsAt b 0) j (omega arith) in
+          let y : z .0 .entry ≡ getD entries j 0 = rw (z .1) at (x .tagged .are j l) in
+          rw (← answers-lead link (slice (p + 4) e b) lead, add-one, z .2, (rw (← y) at v) .is _ (rw (z .1) at (x .placed .are j l))) refl
 
-    pub answering-same : t ≡ false → Answering b p e link i n a c o (j + 1) q
-    answering-same u = record { upto = omega arith; few = omega arith; partly = rw (first, u) at (w .partly) }
+      pub answering-more : {d : List ℕ} {r : ℕ} → t ≡ true → Put c d q r (link ∷ i ∷ p ∷ j ∷ []) → Answering b p e link i n a d o (getD chains (256 + j) 0) r
+      unfolding listed
+      answering-more u f = record {
+        few = omega (arith, lead .low);
+        most = omega arith;
+        here = lead .here;
+        partly = partly-more (w .partly) {xs = row link i p (by j) ∷ []} _ (record { put = f }) (rw (first, u) refl);
+      }
 
-  -- all objects are told
-  module _ (h : n ≤ j) where
-    all-told : RowsPut a c o q (byRows link i p (answersFrom b p e link 0))
-    unfolding answers
-    all-told =
-        let z : j ≡ length (objectsAt b 0) = omega arith in
-        partly-all (w .partly) (rw (z, drop-length (objectsAt b 0)) refl)
+      pub answering-same : t ≡ false → Answering b p e link i n a c o (getD chains (256 + j) 0) q
+      answering-same u = record { few = omega (arith, lead .low); most = w .most; here = lead .here; partly = rw (first, u) at (w .partly) }
 
-    pub answering-some : (q ≡ o → ⊥) → RowsPut a c o q (rowsOf link i p (answersFrom b p e link 0))
-    unfolding listed
-    answering-some u = go (answersFrom b p e link 0) all-told
-      where
-        go : (js : List ℕ) → RowsPut a c o q (byRows link i p js) → RowsPut a c o q (rowsOf link i p js)
-        go [] f = absurd (u (omega arith))
-        go (k ∷ js) f = f
+-- a place of the index is one
+pub answering-place : {b entries places : List ℕ} {e n j : ℕ} → Indexed b entries places n → Within b e → j < n → Within b (getD places j 0)
+answering-place {j = j} x v h = record { high = x .placed .are j h .high; small = v .small }
 
-    pub answering-missing : {d : List ℕ} {r : ℕ} → q ≡ o → Put c d o r (link ∷ i ∷ p ∷ 4294967295 ∷ []) → RowsPut a d o r (rowsOf link i p (answersFrom b p e link 0))
-    unfolding listed
-    answering-missing {d} {r} u g = go (answersFrom b p e link 0) all-told
-      where
-        go : (js : List ℕ) → RowsPut a c o q (byRows link i p js) → RowsPut a d o r (rowsOf link i p js)
-        go [] f = record { put = put-put (rw u at (f .put)) g }
-        go (k ∷ js) f = absurd (omega arith)
+-- all objects are told
+module _ {b entries places : List ℕ} {p e link i n : ℕ} {a c : List ℕ} {o j q : ℕ} (x : Indexed b entries places n) (w : Answering b p e link i n a c o j q) (h : n ≤ j) where
+  all-told : RowsPut a c o q (byRows link i p (answersFrom b p e link 0))
+  unfolding answers
+  all-told = partly-all (w .partly) (rw (drop-of-length-le (objectsAt b 0) {i = j} (omega arith)) refl)
+
+  pub answering-some : (q ≡ o → ⊥) → RowsPut a c o q (rowsOf link i p (answersFrom b p e link 0))
+  unfolding listed
+  answering-some u = go (answersFrom b p e link 0) all-told
+    where
+      go : (js : List ℕ) → RowsPut a c o q (byRows link i p js) → RowsPut a c o q (rowsOf link i p js)
+      go [] f = absurd (u (omega arith))
+      go (k ∷ js) f = f
+
+  pub answering-missing : {d : List ℕ} {r : ℕ} → q ≡ o → Put c d o r (link ∷ i ∷ p ∷ 4294967295 ∷ []) → RowsPut a d o r (rowsOf link i p (answersFrom b p e link 0))
+  unfolding listed
+  answering-missing {d} {r} u g = go (answersFrom b p e link 0) all-told
+    where
+      go : (js : List ℕ) → RowsPut a c o q (byRows link i p js) → RowsPut a d o r (rowsOf link i p js)
+      go [] f = record { put = put-put (rw u at (f .put)) g }
+      go (k ∷ js) f = absurd (omega arith)

@@ -1,20 +1,18 @@
 -- Demand 3, of the definition: what stands on the list, and what does not.
-use Prim.Native.Nat.{ℕ, zero, suc, _+_, _<_, _≤_}
+use Prim.Native.Nat.{ℕ, zero, suc, _+_}
 use mathlib.Core.Path.{_≡_, refl, sym, ap, _∙_}
 use mathlib.Core.Logic.{_↔_, _⊎_, inl, inr}
 use mathlib.Core.List.{List, [], _∷_, _++_, map, List·Memᴰ, List·Memᴰ·head, List·Memᴰ·tail, List·Memᴰ·not-nil, List·Memᴰ·append-cases, Memᴰ·append-left, Memᴰ·append-right, Memᴰ·map, Memᴰ·of-map}
 use mathlib.Core.Bool.{Bool, true, false, _&&_, true≢false}
 use native.Mathlib.Omega.{arith}
-use lib.ListN.{length, getD}
 use lib.Dec.{eqb}
-use borrow.Author.Tests.{eqb-true, eqb-false, eq-eqb, ne-eqb}
+use borrow.Author.Tests.{eqb-true, eqb-false}
 use Rattle.elements.specs.Choice.{choose}
-use Rattle.elements.specs.ChoiceLaws.{by-choose}
 use Rattle.rules.specs.Reading.{Rec}
 use Rattle.rules.specs.Files.{equal}
 use Rattle.rules.specs.DumpLaws.{equal-is}
 use Rattle.rules.specs.WriteLaws.{equal-self}
-use Rattle.links.specs.Links.{Held, held, Object, past, heldFrom, objectsFrom, objectsOf, states, answering, idKind, Found, none, found, firstOf, isId, bears, answers, Reply, by, missing, Row, row, replies, rowsOf, stated, objectRows, linksFrom, links, Chosen, nobody, chosen, objectAt}
+use Rattle.links.specs.Links.{Held, held, Object, objectsOf, states, answering, idKind, Found, none, found, firstOf, isId, bears, answers, Reply, by, missing, Row, row, replies, rowsOf, stated, objectRows, linksFrom, links, chosen, objectAt}
 
 -- object i states the link at book offset p: a record of it there holds the identifier x
 pub record States (os : List Object) (link i p : ℕ) (x : List ℕ) : Type 0 where

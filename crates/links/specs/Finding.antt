@@ -1,14 +1,14 @@
 -- What the code finds in a book's bytes: objects, their records, an index of them, and the rows that it puts.
-use Prim.Native.Nat.{ℕ, _+_, _*_, _≤_, _<_}
+use Prim.Native.Nat.{ℕ, _+_, _≤_, _<_}
 use mathlib.Core.Path.{_≡_}
 use mathlib.Core.List.{List, [], _∷_}
 use mathlib.Core.Bool.{Bool, _&&_}
-use lib.ListN.{length, getD, drop}
+use lib.ListN.{length, getD}
 use lib.Seq.{slice}
 use Rattle.elements.specs.Put.{Put}
 use Rattle.rules.specs.Files.{two}
 use Rattle.rules.specs.Book.{recordsFrom, Ends}
-use Rattle.links.specs.Links.{Held, held, Object, heldFrom, objectsFrom, answering, idKind, Found, none, found, firstOf, isId, answers, Row, rowsOf, objectRows, linksFrom, listed, Chosen, chosen, objectAt}
+use Rattle.links.specs.Links.{Held, held, Object, heldFrom, objectsFrom, answering, idKind, Found, none, found, firstOf, isId, Row, listed, Chosen, nobody, chosen, objectAt}
 
 -- a place in bytes that may be a book
 pub record Within (b : List ℕ) (i : ℕ) : Type 0 where
@@ -43,22 +43,38 @@ pub record FoundAt (b : List ℕ) (f : Found) (r : ℕ) : Type 0 where
   pub none : length b < r + 4 → f ≡ Rattle.links.specs.Links.none
   pub some : r + 4 ≤ length b → (e : ℕ) → Ends b r e → f ≡ found (heldThere b r e)
 
--- what an index has of an object: its entry's tag, and its identifier's place
-pub record IndexedAt (b : List ℕ) (o : Object) (entry place : ℕ) : Type 0 where
-  pub tag : o .entry ≡ entry
-  pub id : FoundAt b (firstOf (idKind entry) (o .records)) place
+-- the entry's tag and the identifier of an object, if there is one
+abbrev pub tagIn : Chosen → ℕ
+tagIn nobody = 0
+tagIn (chosen o) = o .entry
 
--- an index of the first n objects
-pub record Index (b entries places : List ℕ) (n : ℕ) : Type 0 where
-  pub tagged : n ≤ length entries
-  pub placed : n ≤ length places
-  pub are : (j : ℕ) (o : Object) → j < n → objectAt (objectsAt b 0) j ≡ chosen o → IndexedAt b o (getD entries j 0) (getD places j 0)
+abbrev pub idIn : Chosen → Found
+idIn nobody = none
+idIn (chosen o) = firstOf (idKind (o .entry)) (o .records)
+
+-- those of object j
+abbrev pub tagAt : List ℕ → ℕ → ℕ
+tagAt b j = tagIn (objectAt (objectsAt b 0) j)
+
+abbrev pub idAt : List ℕ → ℕ → Found
+idAt b j = idIn (objectAt (objectsAt b 0) j)
+
+-- the entries' tags of the first n objects
+pub record Tagged (b entries : List ℕ) (n : ℕ) : Type 0 where
+  pub long : n ≤ length entries
+  pub are : (j : ℕ) → j < n → tagAt b j ≡ getD entries j 0
+
+-- the places of their identifiers
+pub record Placed (b places : List ℕ) (n : ℕ) : Type 0 where
+  pub long : n ≤ length places
+  pub are : (j : ℕ) → j < n → FoundAt b (idAt b j) (getD places j 0)
 
 -- an index of all objects
 pub record Indexed (b entries places : List ℕ) (n : ℕ) : Type 0 where
   pub count : length (objectsAt b 0) ≡ n
   pub few : n ≤ 128
-  pub index : Index b entries places n
+  pub tagged : Tagged b entries n
+  pub placed : Placed b places n
 
 -- whether an indexed object answers the link that the record from p to e states
 pub record AnswerTold (b : List ℕ) (p e link entry place : ℕ) (r : Bool) : Type 0 where

@@ -4,5 +4,6 @@ pub mod Whole
 pub mod Rising
 pub mod Finding
 pub mod FindingLaws
+pub mod Chains
 pub mod Serving
 pub mod Agreement

@@ -1,18 +1,17 @@
 -- Demand 3, "once, in the stated order": rows strictly rise.
 use Prim.Native.Nat.{ℕ, suc, _+_, _<_, _≤_}
-use mathlib.Core.Path.{_≡_, refl, sym, _∙_}
+use mathlib.Core.Path.{_≡_, refl}
 use mathlib.Core.Logic.{_⊎_, inl, inr}
 use mathlib.Core.List.{List, [], _∷_, _++_, map, List·Memᴰ, List·Memᴰ·head, List·Memᴰ·tail, List·Memᴰ·not-nil, List·Memᴰ·append-cases, Memᴰ·of-map}
 use mathlib.Core.Bool.{Bool, true, false, _||_, true≢false}
 use native.Mathlib.Omega.{arith}
-use lib.ListN.{length, getD}
+use lib.ListN.{getD}
 use lib.Dec.{eqb}
-use borrow.Author.Tests.{eqb-true}
 use Rattle.elements.specs.Choice.{choose}
 use Rattle.rules.specs.Reading.{Rec}
 use Rattle.rules.specs.Blocks.{closing}
-use Rattle.links.specs.Links.{Held, held, Object, past, heldFrom, objectsFrom, objectsOf, states, bears, answers, Reply, by, missing, Row, row, replies, rowsOf, stated, objectRows, linksFrom, links}
-use Rattle.links.specs.Demand3.{Said, stated-are}
+use Rattle.links.specs.Links.{Held, held, Object, past, heldFrom, objectsFrom, objectsOf, states, bears, answers, Reply, by, missing, Row, row, rowsOf, stated, objectRows, linksFrom, links}
+use Rattle.links.specs.Demand3.{stated-are}
 
 -- an answering object before another
 abbrev Lower : Reply → Reply → Type 0

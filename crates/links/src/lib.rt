@@ -1,4 +1,5 @@
 // Demand 3: the links that a book's objects state, and its fields.
+mod chains;
 mod fields;
 mod index;
 mod listing;

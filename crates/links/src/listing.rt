@@ -1,3 +1,4 @@
+use crate::chains::chain;
 use crate::index::index;
 use crate::rows::put_links;
 use elements::Fault;
@@ -10,28 +11,36 @@ ghost use Rattle.rules.specs.Book.{records};
 ghost use Rattle.layouts.specs.Service.{Gives};
 ghost use Rattle.links.specs.Links.{links, listed};
 ghost use Rattle.links.specs.Finding.{Within, objectsAt, Indexed};
+ghost use Rattle.links.specs.Chains.{Blank, Chained};
 ghost use Rattle.links.specs.Serving.{ListTold};
 
 // How many numbers the list has: it is put where there is no room.
-fn numbers(b: &[u8], n: usize, entries: &[u8], places: &[usize]) -> usize
-    requires { ⌜ Indexed (now b) (now entries) (now places) n × Within (now b) 0 ⌝ }
+fn numbers(b: &[u8], n: usize, entries: &[u8], places: &[usize], chains: &[u8]) -> usize
+    requires { ⌜ Indexed (now b) (now entries) (now places) n × Chained (now b) (now chains) n 0 × Within (now b) 0 ⌝ }
     ensures { λ r. ⌜ r ≡ length (listed (links (records (now (b .entry))))) ⌝ }
 {
     let mut nothing = [0u32; 0];
-    put_links(b, n, entries, places, &mut nothing)
+    put_links(b, n, entries, places, chains, &mut nothing)
 }
 
 // The links of an accepted book: how many numbers there are, and then, if there is room, the numbers.
-fn list_by(b: &[u8], rows: &mut [u32], entries: &mut [u8], places: &mut [usize]) -> Outcome
-    requires { ⌜ Within (now b) 0 × (length (objectsAt (now b) 0) ≤ 128) × (128 ≤ length (now entries)) × (128 ≤ length (now places)) ⌝ }
+fn list_by(
+    b: &[u8],
+    rows: &mut [u32],
+    entries: &mut [u8],
+    places: &mut [usize],
+    chains: &mut [u8],
+) -> Outcome
+    requires { ⌜ Within (now b) 0 × (length (objectsAt (now b) 0) ≤ 128) × (128 ≤ length (now entries)) × (128 ≤ length (now places)) × Blank (now chains) ⌝ }
     ensures { λ r. ⌜ Gives (listed (links (records (now (b .entry))))) (now (rows .entry)) (now (rows .exit)) r ⌝ }
 {
     let n = index(b, entries, places);
-    let m = numbers(b, n, entries, places);
+    chain(b, n, places, chains);
+    let m = numbers(b, n, entries, places, chains);
     if rows.len() < m {
         return Outcome::Refused(Fault::NoRoom, m);
     }
-    put_links(b, n, entries, places, rows);
+    put_links(b, n, entries, places, chains, rows);
     Outcome::Accepted(m)
 }
 
@@ -42,7 +51,8 @@ pub fn list(book: &[u8], rows: &mut [u32]) -> Outcome
     if is_book(book) {
         let mut entries = [0u8; 128];
         let mut places = [0usize; 128];
-        return list_by(book, rows, &mut entries, &mut places);
+        let mut chains = [255u8; 384];
+        return list_by(book, rows, &mut entries, &mut places, &mut chains);
     }
     Outcome::Refused(Fault::NoDump, 0)
 }

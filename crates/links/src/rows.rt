@@ -1,4 +1,5 @@
 // "link rows are written to a lent u32 slice"
+use crate::chains::key;
 use crate::objects::next_object;
 use crate::sorts::is_answering;
 use crate::sorts::is_closing;
@@ -7,14 +8,14 @@ use rules::byte_at;
 use rules::record_end;
 use rules::same_bytes;
 use rules::word;
-ghost use mathlib.Core.Path.{_≡_};
 ghost use mathlib.Core.List.{[], _∷_};
-ghost use Prim.Native.Nat.{_+_, _*_, _^_, _≤_, _<_};
+ghost use Prim.Native.Nat.{_+_, _^_, _≤_, _<_};
 ghost use lib.ListN.{length};
 ghost use lib.Seq.{slice};
 ghost use Rattle.elements.specs.Put.{Put};
 ghost use Rattle.links.specs.Links.{answers, rowsOf, objectRows, linksFrom};
-ghost use Rattle.links.specs.Finding.{Within, objectsAt, heldAt, FoundAt, Indexed, AnswerTold, RowsPut};
+ghost use Rattle.links.specs.Finding.{Within, objectsAt, heldAt, Indexed, AnswerTold, RowsPut};
+ghost use Rattle.links.specs.Chains.{Chained};
 
 // A number, if there is room for it.
 fn put_word(rows: &mut [u32], o: usize, v: u32) -> usize
@@ -53,7 +54,7 @@ fn is_answer(b: &[u8], p: usize, e: usize, link: u32, entry: u8, place: usize) -
     false
 }
 
-// The rows of the record from p to e, which states this link: each object that answers, or that none does.
+// The rows of the record from p to e, which states this link: each object that answers, out of its identifier's chain, or that none does.
 fn put_answers(
     b: &[u8],
     p: usize,
@@ -63,19 +64,20 @@ fn put_answers(
     n: usize,
     entries: &[u8],
     places: &[usize],
+    chains: &[u8],
     rows: &mut [u32],
     o: usize,
 ) -> usize
-    requires { ⌜ Indexed (now b) (now entries) (now places) n × Within (now b) e × (p + 4 ≤ e) × (o < 2 ^ 61) ⌝ }
+    requires { ⌜ Indexed (now b) (now entries) (now places) n × Chained (now b) (now chains) n 0 × Within (now b) e × (p + 4 ≤ e) × (o < 2 ^ 61) ⌝ }
     ensures { λ r. ⌜ RowsPut (now (rows .entry)) (now (rows .exit)) o r (rowsOf link object p (answers link (slice (p + 4) e (now (b .entry))) 0 (objectsAt (now (b .entry)) 0))) × (r ≤ o + 512) ⌝ }
 {
-    let mut j = 0;
+    let mut j = chains[key(b, p + 4, e)] as usize;
     let mut q = o;
     while j < n {
         if is_answer(b, p, e, link, entries[j], places[j]) {
             q = put_row(rows, q, link, object, p as u32, j as u32);
         }
-        j += 1;
+        j = chains[256 + j] as usize;
     }
     if q == o {
         return put_row(rows, o, link, object, p as u32, 4294967295);
@@ -92,10 +94,11 @@ fn put_object(
     n: usize,
     entries: &[u8],
     places: &[usize],
+    chains: &[u8],
     rows: &mut [u32],
     o: usize,
 ) -> usize
-    requires { ⌜ Indexed (now b) (now entries) (now places) n × Within (now b) i × (o < 2 ^ 60) ⌝ }
+    requires { ⌜ Indexed (now b) (now entries) (now places) n × Chained (now b) (now chains) n 0 × Within (now b) i × (o < 2 ^ 60) ⌝ }
     ensures { λ r. ⌜ RowsPut (now (rows .entry)) (now (rows .exit)) o r (objectRows (objectsAt (now (b .entry)) 0) object entry (heldAt (now (b .entry)) i)) × (r ≤ o + 67108864) ⌝ }
 {
     let mut j = i;
@@ -108,7 +111,7 @@ fn put_object(
         let e = record_end(b, j);
         let link = link_of(entry, k);
         if link != 0 {
-            q = put_answers(b, j, e, link, object, n, entries, places, rows, q);
+            q = put_answers(b, j, e, link, object, n, entries, places, chains, rows, q);
         }
         j = e;
     }
@@ -116,8 +119,15 @@ fn put_object(
 }
 
 // All rows.
-pub fn put_links(b: &[u8], n: usize, entries: &[u8], places: &[usize], rows: &mut [u32]) -> usize
-    requires { ⌜ Indexed (now b) (now entries) (now places) n × Within (now b) 0 ⌝ }
+pub fn put_links(
+    b: &[u8],
+    n: usize,
+    entries: &[u8],
+    places: &[usize],
+    chains: &[u8],
+    rows: &mut [u32],
+) -> usize
+    requires { ⌜ Indexed (now b) (now entries) (now places) n × Chained (now b) (now chains) n 0 × Within (now b) 0 ⌝ }
     ensures { λ r. ⌜ RowsPut (now (rows .entry)) (now (rows .exit)) 0 r (linksFrom (objectsAt (now (b .entry)) 0) 0 (objectsAt (now (b .entry)) 0)) ⌝ }
 {
     let mut i = 0;
@@ -130,7 +140,7 @@ pub fn put_links(b: &[u8], n: usize, entries: &[u8], places: &[usize], rows: &mu
         }
         i = record_end(b, j);
         let entry = byte_at(b, j + 4, i, 0);
-        q = put_object(b, i, entry, k as u32, n, entries, places, rows, q);
+        q = put_object(b, i, entry, k as u32, n, entries, places, chains, rows, q);
         k += 1;
     }
     q

@@ -1,9 +1,9 @@
 -- A class's sequence with its rest, data containers, and the subclass.
-use Prim.Native.Nat.{ℕ, zero, suc, _+_, _-_, _*_, _<_, _≤_}
+use Prim.Native.Nat.{ℕ, _+_, _-_, _*_, _≤_}
 use mathlib.Core.Path.{_≡_, refl, sym, _∙_}
 use mathlib.Core.List.{List, [], _∷_}
 use native.Mathlib.Omega.{arith}
-use lib.ListN.{length, getD}
+use lib.ListN.{length}
 use lib.Seq.{slice}
 use Rattle.elements.specs.declared.fault.Fault.{Fault}
 use Rattle.elements.specs.declared.answer.Run.{Run}
@@ -16,12 +16,12 @@ use Rattle.reader.specs.declared.part.Part.the-variants.{Took, Fails}
 use Rattle.rules.specs.declared.table.Row.{Row}
 use Rattle.rules.specs.declared.table.Class.{Class}
 use Rattle.rules.specs.declared.table.Class.the-variants.{Keys, Certificates, Containers, Authentications}
-use Rattle.rules.specs.Reading.{Res, andThen, _then_}
+use Rattle.rules.specs.Reading.{_then_}
 use Rattle.rules.specs.Parts.{components, rest, element, sealed, ended, keptOut}
-use Rattle.rules.specs.Tables.{classes, classOf, keyRows, certificateRows, authenticationRows}
+use Rattle.rules.specs.Tables.{keyRows, certificateRows, authenticationRows}
 use Rattle.rules.specs.Objects.{classBody, subclass}
 use Rattle.reader.specs.Did.{Did, fell, Stays, Inside}
-use Rattle.reader.proofs.DidLaws.{did-one, did-as, did-then, did-fails, did-ends}
+use Rattle.reader.proofs.DidLaws.{did-one, did-as, did-fails, did-ends}
 
 -- all rows of a table
 pub whole-rows : {a b : List ℕ} {o at end c : ℕ} {r : Part} (s : List ℕ) (rs : List Row) → c ≡ length rs → Did a b o at end (components s (slice 0 c rs) end at) r → Did a b o at end (components s rs end at) r

@@ -1,7 +1,7 @@
 -- The loop over a sequence's rows.
 use Prim.Native.Nat.{ℕ, _+_, _*_, _<_, _≤_}
 use mathlib.Core.Path.{_≡_, refl, sym, _∙_}
-use mathlib.Core.List.{List, [], _∷_, _++_, append-nil, append-assoc}
+use mathlib.Core.List.{List, [], _++_, append-nil, append-assoc}
 use native.Mathlib.Numerals.{add-one}
 use native.Mathlib.Omega.{arith}
 use lib.ListN.{length, getD}
@@ -13,7 +13,7 @@ use Rattle.rules.specs.declared.table.Row.{Row}
 use Rattle.rules.specs.Reading.{Rec, Res, took, fails, also, andThen}
 use Rattle.rules.specs.Parts.{component, rowBody, components}
 use Rattle.rules.specs.Tables.{noRow}
-use Rattle.reader.specs.Did.{Did, did, fell}
+use Rattle.reader.specs.Did.{Did}
 use Rattle.reader.proofs.DidLaws.{did-then, did-fails, did-none, did-low, did-high, did-small, did-same, did-as}
 
 abbrev one : List ℕ → Row → ℕ → ℕ → Res

@@ -19,7 +19,7 @@ use Rattle.reader.specs.declared.part.Part.the-variants.{Took, Fails}
 use Rattle.reader.specs.declared.part.Due.{Due}
 use Rattle.reader.specs.declared.part.Due.the-variants.{Here, Absent, Not}
 use Rattle.rules.specs.declared.table.Need.{Need}
-use Rattle.rules.specs.Reading.{Rec, rec, Res, took, fails, also, andThen, Body}
+use Rattle.rules.specs.Reading.{Rec, rec, Res, took, also, andThen, Body}
 use Rattle.rules.specs.Parts.{component, element, whatever}
 use Rattle.rules.specs.Book.{encode}
 use Rattle.reader.specs.Did.{Did, did, fell, Forward, Stays, Inside, Dues}

@@ -1,10 +1,10 @@
 -- The files in turn.
-use Prim.Native.Nat.{ℕ, zero, suc, _+_, _-_, _*_, _^_, _<_, _≤_}
+use Prim.Native.Nat.{ℕ, suc, _+_, _-_, _*_, _^_, _<_, _≤_}
 use mathlib.Core.Path.{_≡_, refl, sym, ap, _∙_}
 use mathlib.Core.List.{List, [], _∷_, _++_, append-nil}
 use native.Mathlib.Omega.{arith}
-use lib.ListN.{length, getD, drop, take, set, length-append}
-use lib.Seq.{slice, sets, take-set-le}
+use lib.ListN.{length, getD, drop, take, set}
+use lib.Seq.{sets, take-set-le}
 use Rattle.elements.specs.declared.fault.Fault.{Fault}
 use Rattle.elements.specs.Put.{Put}
 use Rattle.elements.specs.PutLaws.{put-none, put-put, put-then, put-length}
@@ -16,11 +16,11 @@ use Rattle.rules.specs.Reading.{Rec, Res, took, fails, also}
 use Rattle.rules.specs.Parts.{counted}
 use Rattle.rules.specs.Files.{Name, File, framed, files, frames, namedFrame, namesOf, two, directory, directories}
 use Rattle.rules.specs.Book.{encode}
-use Rattle.reader.specs.Did.{DidObjects, didObjects, fellObjects}
+use Rattle.reader.specs.Did.{DidObjects, fellObjects}
 use Rattle.reader.specs.Scan.{Lies, Holds, NextName, last, found, NameTold}
 use Rattle.reader.specs.Frame.{framedAs, Path}
 use Rattle.reader.specs.Twelve.{Sound}
-use Rattle.reader.specs.Directories.{DidFiles, didFiles, fellFiles, FilesTold}
+use Rattle.reader.specs.Directories.{didFiles, fellFiles, FilesTold}
 use Rattle.reader.proofs.DidLaws.{encode-append}
 use Rattle.reader.proofs.ComponentsLaws.{also-none, also-also}
 use Rattle.reader.proofs.EntryLaws.{objects-open, objects-small, objects-high, objects-few, objects-same, objects-kept}

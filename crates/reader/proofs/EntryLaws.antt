@@ -1,20 +1,19 @@
 -- Objects with their places, and EF.OD's entries.
 use Prim.Native.Nat.{ℕ, zero, suc, _+_, _-_, _*_, _<_, _≤_}
-use mathlib.Core.Path.{_≡_, refl, sym, ap, _∙_}
+use mathlib.Core.Path.{_≡_, refl, sym, _∙_}
 use mathlib.Core.Bool.{Bool, true, false, not, _&&_, _||_}
 use mathlib.Core.List.{List, [], _∷_, _++_, append-nil}
 use native.Mathlib.Omega.{arith}
-use lib.ListN.{length, getD, length-append}
+use lib.ListN.{length, getD}
 use lib.Seq.{slice}
 use lib.Dec.{leb, eqb, ltb}
-use borrow.Author.Tests.{lt-ltb, le-ltb, eq-eqb, ne-eqb, le-leb, lt-leb, ltb-true, leb-true}
+use borrow.Author.Tests.{ne-eqb, le-leb, lt-leb, ltb-true, leb-true}
 use Rattle.elements.specs.declared.fault.Fault.{Fault}
-use Rattle.elements.specs.declared.fault.Fault.the-variants.{BadSize, NotDue, ManyObjects}
+use Rattle.elements.specs.declared.fault.Fault.the-variants.{BadSize, NotDue}
 use Rattle.elements.specs.declared.answer.Head.{Head}
 use Rattle.elements.specs.declared.answer.Head.the-variants.{At, No}
 use Rattle.elements.specs.declared.answer.Run.{Run}
 use Rattle.elements.specs.declared.answer.Run.the-variants.{Ends, Refused}
-use Rattle.elements.specs.Choice.{choose}
 use Rattle.elements.specs.ChoiceLaws.{by-choose, both-true}
 use Rattle.elements.specs.Header.{header}
 use Rattle.elements.specs.HeaderLaws.{header-in}
@@ -27,7 +26,7 @@ use Rattle.reader.specs.declared.part.Many.{Many}
 use Rattle.reader.specs.declared.part.Many.the-variants as many
 use Rattle.rules.specs.declared.table.Need.the-variants.{Required}
 use Rattle.rules.specs.Reading.{Rec, rec, Res, took, fails, also, andThen, _then_, Reader, Body}
-use Rattle.rules.specs.Parts.{counted, repeat, toEnd, element, whatever, component, due, ended, surplus, keep, innerRun, sealed}
+use Rattle.rules.specs.Parts.{repeat, toEnd, element, whatever, component, due, ended, surplus, keep, innerRun, sealed}
 use Rattle.rules.specs.Objects.{counts, contents, object, objectBody}
 use Rattle.rules.specs.Files.{toFill, filled, fill, objects, namedPath, entryInside, entryBody, od, directory}
 use Rattle.rules.specs.Book.{encode}

@@ -2,9 +2,9 @@
 use Prim.Native.Nat.{ℕ, zero, suc, _+_, _-_, _*_, _<_, _≤_}
 use mathlib.Core.Path.{_≡_, refl, sym, _∙_}
 use mathlib.Core.Bool.{Bool, true, false, not}
-use mathlib.Core.List.{List, [], _∷_}
+use mathlib.Core.List.{List, _∷_}
 use native.Mathlib.Omega.{arith}
-use lib.ListN.{length, getD}
+use lib.ListN.{getD}
 use lib.Dec.{eqb}
 use borrow.Author.Tests.{lt-ltb, le-ltb, eq-eqb, ne-eqb}
 use Rattle.elements.specs.declared.fault.Fault.{Fault}
@@ -17,7 +17,7 @@ use Rattle.elements.specs.Record.{recordBytes}
 use Rattle.reader.specs.declared.part.Part.{Part}
 use Rattle.reader.specs.declared.part.Part.the-variants.{Took, Fails}
 use Rattle.rules.specs.declared.table.Need.the-variants.{Required}
-use Rattle.rules.specs.Reading.{Res, took, fails, _then_}
+use Rattle.rules.specs.Reading.{_then_}
 use Rattle.rules.specs.Parts.{component, components, rest, keptOut}
 use Rattle.rules.specs.Tables.{ciaRows}
 use Rattle.rules.specs.Files.{toFill, filled, fill, ciaBody, ciaElement, ciaFill, cia}

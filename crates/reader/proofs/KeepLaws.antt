@@ -3,7 +3,6 @@ use Prim.Native.Nat.{ℕ, _+_, _-_, _*_, _/_, _%_, _<_, _≤_}
 use mathlib.Core.Path.{_≡_, refl, sym, _∙_}
 use mathlib.Core.List.{List, []}
 use native.Mathlib.Omega.{arith}
-use lib.ListN.{length}
 use lib.Seq.{slice}
 use borrow.Author.Tests.{lt-ltb, le-ltb, eq-eqb, ne-eqb}
 use Rattle.elements.specs.declared.fault.Fault.{Fault}
@@ -16,10 +15,9 @@ use Rattle.elements.specs.Header.{header}
 use Rattle.elements.specs.Put.{Put}
 use Rattle.elements.specs.Record.{recordBytes}
 use Rattle.elements.specs.Sealed.{sealedRun}
-use Rattle.reader.specs.declared.part.Part.{Part}
 use Rattle.reader.specs.declared.part.Part.the-variants.{Took, Fails}
 use Rattle.rules.specs.Parts.{ended, rest, sealed, innerRun}
-use Rattle.reader.specs.Did.{Did, did, fell, Stays}
+use Rattle.reader.specs.Did.{Did, fell, Stays}
 use Rattle.reader.proofs.DidLaws.{did-none, did-one}
 
 module _ (s : List ℕ) (end at o : ℕ) where

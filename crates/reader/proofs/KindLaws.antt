@@ -1,12 +1,12 @@
 -- The types of objects: the ways through their code.
-use Prim.Native.Nat.{ℕ, _+_, _*_, _/_, _%_, _<_, _≤_}
+use Prim.Native.Nat.{ℕ, _/_, _%_}
 use mathlib.Core.Path.{_≡_, refl, sym, _∙_}
 use mathlib.Core.Bool.{Bool, true, false}
 use mathlib.Core.List.{List, [], _∷_}
 use native.Mathlib.Omega.{arith}
 use lib.Seq.{slice}
 use lib.Dec.{ltb, eqb}
-use borrow.Author.Tests.{eq-eqb, ne-eqb, le-leb, lt-leb}
+use borrow.Author.Tests.{eq-eqb, ne-eqb}
 use Rattle.elements.specs.declared.fault.Fault.{Fault}
 use Rattle.elements.specs.declared.fault.Fault.the-variants.{PasswordFlags, NotDue}
 use Rattle.elements.specs.declared.answer.Form.the-variants.{Bits}
@@ -21,21 +21,16 @@ use Rattle.elements.specs.Values.{value, placed, dueElement, element as read-el
 use Rattle.elements.specs.declared.answer.Head.{Head}
 use Rattle.elements.specs.declared.answer.Head.the-variants.{At, No}
 use Rattle.elements.specs.Header.{header}
-use Rattle.elements.specs.HeaderLaws.{header-in}
 use Rattle.reader.specs.declared.part.Part.{Part}
 use Rattle.reader.specs.declared.part.Part.the-variants.{Took, Fails}
-use Rattle.reader.specs.declared.part.Due.{Due}
-use Rattle.reader.specs.declared.part.Due.the-variants.{Here}
-use Rattle.rules.specs.declared.table.Need.{Need}
 use Rattle.rules.specs.declared.table.Need.the-variants.{Required, Optional}
-use Rattle.rules.specs.declared.table.Row.{Row}
 use Rattle.rules.specs.declared.table.ObjectType.{ObjectType}
 use Rattle.rules.specs.declared.table.ObjectType.the-variants.{PrivateKey, Certificate, Password, Sealed}
 use Rattle.rules.specs.Reading.{Rec, rec, Res, took, fails, also, andThen, _then_, number}
 use Rattle.rules.specs.Parts.{absent, due, valued, judged, payload, rowBody, component, components, rest, ended, element, sealed, keptOut}
-use Rattle.rules.specs.Tables.{privateRows, pwdFlagsRow, passwordRows, typeOf}
+use Rattle.rules.specs.Tables.{privateRows, pwdFlagsRow, passwordRows}
 use Rattle.rules.specs.Objects.{flagged, path, privateKey, certificateValue, certificate, password, typePart, typeBody}
-use Rattle.reader.specs.Did.{Did, fell, Stays, Inside, Dues, flagsSet, bothFlags}
+use Rattle.reader.specs.Did.{Did, fell, Stays, Inside, flagsSet, bothFlags}
 use Rattle.reader.proofs.DidLaws.{did-then, did-ends, did-fails, did-same, element-here}
 
 -- a private key

@@ -1,7 +1,7 @@
 -- A row's record: the ways through its judging.
 use Prim.Native.Nat.{ℕ, _+_, _-_, _*_, _<_, _≤_}
 use mathlib.Core.Path.{_≡_, refl, sym, _∙_}
-use mathlib.Core.Bool.{Bool, true, false, _&&_, not}
+use mathlib.Core.Bool.{Bool, true, false}
 use mathlib.Core.List.{List, [], _∷_}
 use native.Mathlib.Omega.{arith}
 use lib.ListN.{length, getD}
@@ -9,14 +9,13 @@ use lib.Seq.{slice, length-slice}
 use lib.Dec.{leb, eqb}
 use borrow.Author.Tests.{lt-leb, le-leb}
 use Rattle.elements.specs.declared.fault.Fault.{Fault}
-use Rattle.elements.specs.declared.fault.Fault.the-variants.{DefaultWritten, OutOfRange, BadSize, BadBoolean}
+use Rattle.elements.specs.declared.fault.Fault.the-variants.{DefaultWritten, OutOfRange, BadSize}
 use Rattle.elements.specs.declared.answer.Form.{Form}
 use Rattle.elements.specs.declared.answer.Form.the-variants.{Integer, Boolean, Bits, Octets, Text, Time, Null}
 use Rattle.elements.specs.declared.answer.Value.{Value}
 use Rattle.elements.specs.declared.answer.Value.the-variants.{Of, Wrong}
 use Rattle.elements.specs.declared.answer.Read.{Read}
 use Rattle.elements.specs.declared.answer.Read.the-variants as read
-use Rattle.elements.specs.Choice.{pick}
 use Rattle.elements.specs.ChoiceLaws.{by-pick}
 use Rattle.elements.specs.Put.{Put, le32}
 use Rattle.elements.specs.Record.{recordBytes}
@@ -27,8 +26,8 @@ use Rattle.reader.specs.declared.part.Part.the-variants.{Took, Fails}
 use Rattle.rules.specs.declared.table.Need.{Need}
 use Rattle.rules.specs.declared.table.Need.the-variants.{Default}
 use Rattle.rules.specs.declared.table.Row.{Row}
-use Rattle.rules.specs.Parts.{isDefault, inBounds, payload, judged, valued, rowBody}
-use Rattle.reader.specs.Did.{Did, did, fell}
+use Rattle.rules.specs.Parts.{isDefault, inBounds, payload, valued, rowBody}
+use Rattle.reader.specs.Did.{Did, fell}
 use Rattle.reader.proofs.DidLaws.{did-one}
 
 pub default-is : {need : Need} {n : Bool} {d : ℕ} (m : ℕ) → need ≡ Default d → n ≡ false → eqb m d ≡ isDefault need n m

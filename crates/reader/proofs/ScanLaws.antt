@@ -1,12 +1,12 @@
 -- How the code goes over records: what a loop has passed, and what is left.
-use Prim.Native.Nat.{ℕ, suc, _+_, _-_, _<_, _≤_}
+use Prim.Native.Nat.{ℕ, suc, _+_, _<_, _≤_}
 use mathlib.Core.Path.{_≡_, refl, sym, ap, _∙_}
 use mathlib.Core.List.{List, [], _∷_, _++_, map, map-append, append-assoc, append-nil}
 use mathlib.Core.Bool.{Bool, true, false, _&&_, _||_}
 use native.Mathlib.Numerals.{add-one}
 use native.Mathlib.Omega.{arith}
 use lib.ListN.{length, getD, take, drop, set, length-set, List·getD-eq-default}
-use lib.Seq.{slice, slice-empty, getD-drop, drop-drop, length-slice, getD-set-same, getD-set-other, take-suc-set}
+use lib.Seq.{slice, slice-empty, getD-drop, drop-drop, getD-set-same, getD-set-other, take-suc-set}
 use lib.Dec.{leb, eqb}
 use borrow.Author.Tests.{eq-eqb, ne-eqb, le-leb, lt-leb, eqb-true, eqb-false, leb-true}
 use Rattle.elements.specs.Choice.{pick, choose}
@@ -23,7 +23,6 @@ use Rattle.rules.specs.Tables.{ownIdRow}
 use Rattle.rules.specs.Files.{Name, nameOf, namesOf, paths, equal, met, firstAgain, two, wrongAt, repeated}
 use Rattle.rules.specs.Book.{encode}
 use Rattle.rules.specs.Laws.{Laid}
-use Rattle.rules.specs.DumpLaws.{equal-is}
 use Rattle.rules.specs.CheckLaws.{ownIds}
 use Rattle.reader.specs.Scan.{Lies, Holds, PathsTold, clashOf, IdsTold, NextName, last, found, NameTold, Whole, behind, bears, skip, keyAt, keysOf, Spans, MetTold, RepeatTold, counts, placedKeys, Places, Index, Indexed, Noted}
 use Rattle.reader.proofs.DidLaws.{encode-append}

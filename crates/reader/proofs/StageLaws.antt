@@ -1,16 +1,16 @@
 -- The stages of reading, one after the other.
 use Prim.Native.Nat.{ℕ, _+_, _-_, _*_, _<_, _≤_}
 use mathlib.Core.Path.{_≡_, refl, sym, ap, _∙_}
-use mathlib.Core.List.{List, [], _∷_, _++_, append-assoc}
+use mathlib.Core.List.{List, [], _++_, append-assoc}
 use native.Mathlib.Omega.{arith}
-use lib.ListN.{length, take, drop, length-append}
-use lib.Seq.{slice, take-at, drop-at, length-take-le}
+use lib.ListN.{length, take}
+use lib.Seq.{length-take-le}
 use borrow.Author.Tests.{lt-ltb, le-ltb, le-leb, lt-leb}
 use Rattle.elements.specs.declared.fault.Fault.{Fault}
 use Rattle.elements.specs.declared.fault.Fault.the-variants.{DumpSize, PathTwice, AuthIdTwice}
 use Rattle.elements.specs.Lists.{Bytes, join}
 use Rattle.elements.specs.Put.{Put}
-use Rattle.elements.specs.PutLaws.{put-put, put-then, put-length, put-fits, put-there, put-upto}
+use Rattle.elements.specs.PutLaws.{put-then, put-length, put-there, put-upto}
 use Rattle.reader.specs.declared.part.Part.{Part}
 use Rattle.reader.specs.declared.part.Part.the-variants.{Took, Fails}
 use Rattle.reader.specs.declared.part.Many.{Many}
@@ -27,21 +27,21 @@ use Rattle.reader.specs.declared.frame.Chain.{Chain}
 use Rattle.reader.specs.declared.frame.Chain.the-variants.{Sound, Unsound}
 use Rattle.rules.specs.declared.outcome.Outcome.{Outcome}
 use Rattle.rules.specs.declared.outcome.Outcome.the-variants.{Accepted, Refused}
-use Rattle.rules.specs.Reading.{Rec, Res, took, fails}
-use Rattle.rules.specs.Files.{File, files, frames, fine, wrongAt, namesOf, paths, firstAgain, entryPlace, follow, directories, repeated, cia, od, accepted, refused, Answer, onRes, onCheck, frame, readFiles, readParts, readDump}
+use Rattle.rules.specs.Reading.{Rec, Res, took}
+use Rattle.rules.specs.Files.{File, files, frames, namesOf, paths, entryPlace, follow, directories, repeated, cia, od, accepted, refused, Answer, onRes, onCheck, frame, readFiles, readParts, readDump}
 use Rattle.rules.specs.Book.{encode}
 use Rattle.rules.specs.Laws.{Laid, size, laid-append}
 use Rattle.rules.specs.FileLaws.{cia-law, od-law}
 use Rattle.rules.specs.DumpLaws.{files-bound, ok-facts}
 use Rattle.rules.specs.WriteLaws.{book-size}
-use Rattle.reader.specs.Did.{Did, did, fell, DidObjects, didObjects, fellObjects}
+use Rattle.reader.specs.Did.{Did, did, fell, DidObjects, fellObjects}
 use Rattle.reader.specs.Scan.{Lies, Holds, PathsTold, IdsTold, clashOf}
 use Rattle.reader.specs.Frame.{framedAs, Inner, FramesTold}
 use Rattle.reader.specs.Twelve.{FollowTold, followedAs}
 use Rattle.reader.specs.Directories.{DidFiles, didFiles, fellFiles, FilesTold}
 use Rattle.reader.specs.Stages.{Reads, reads, falls, Framing, Opening, Opened, FilesRead, EntriesRead, PartsRead}
 use Rattle.reader.proofs.DidLaws.{encode-append, did-same}
-use Rattle.reader.proofs.EntryLaws.{objects-open, objects-few, objects-same, objects-kept}
+use Rattle.reader.proofs.EntryLaws.{objects-open, objects-few, objects-same}
 use Rattle.reader.proofs.DirectoriesLaws.{put-lies}
 
 -- records laid out behind others

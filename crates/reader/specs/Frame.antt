@@ -1,5 +1,5 @@
 -- What the code tells of a dump's frames.
-use Prim.Native.Nat.{ℕ, _+_, _-_, _≤_}
+use Prim.Native.Nat.{ℕ, _+_, _≤_}
 use mathlib.Core.Path.{_≡_}
 use mathlib.Core.List.{List}
 use lib.ListN.{length}
@@ -10,7 +10,7 @@ use Rattle.reader.specs.declared.frame.Framed.{Framed}
 use Rattle.reader.specs.declared.frame.Framed.the-variants as file
 use Rattle.reader.specs.declared.frame.Chain.{Chain}
 use Rattle.reader.specs.declared.frame.Chain.the-variants.{Sound, Unsound}
-use Rattle.rules.specs.Files.{Framed as FrameOf, framed, broken, Files, files, brokenAt, File, frameOf, frames}
+use Rattle.rules.specs.Files.{Framed as FrameOf, framed, broken, files, brokenAt, File, frameOf, frames}
 
 -- what is made of a record's inside
 abbrev pub bySpan : (ℕ → ℕ → FrameOf) → Span → FrameOf

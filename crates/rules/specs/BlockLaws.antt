@@ -1,8 +1,9 @@
--- An accepted book is in blocks: each object of the dump stands whole in it, with all records that reading it gives, and there are at most 128.
+-- An accepted book is in blocks: each object of the dump stands whole in it, with all records that reading it gives, and there are at most 128. Only authentication objects have an own authId.
 use Prim.Native.Nat.{ℕ, zero, suc, _+_, _-_, _/_, _%_, _≤_, _<_}
-use mathlib.Core.List.{List, [], _∷_, _++_, append-assoc, append-nil}
+use mathlib.Core.List.{List, [], _∷_, _++_, append-assoc, append-nil, List·Memᴰ, List·Memᴰ·head, List·Memᴰ·tail, List·Memᴰ·not-nil, List·Memᴰ·cases-cons, List·Memᴰ·append-cases}
+use mathlib.Core.Logic.{⊎-elim}
 use mathlib.Core.Bool.{Bool, true, false, _&&_, _||_, not}
-use mathlib.Core.Path.{_≡_, refl}
+use mathlib.Core.Path.{_≡_, refl, ap}
 use native.Mathlib.Omega.{arith}
 use lib.ListN.{length, getD, length-append}
 use lib.Seq.{slice}
@@ -30,53 +31,48 @@ use Rattle.rules.specs.declared.table.Sort.{Sort}
 use Rattle.rules.specs.declared.table.Sort.the-variants.{Always, Identifier, Not, And, Or, Other}
 use Rattle.rules.specs.Reading.{Rec, rec, Res, took, fails, also, andThen, _then_, Reader, Body, number}
 use Rattle.rules.specs.Parts.{Val, good, wrong, judged, absent, due, surplus, whatever, inside, valued, component, rowBody, components, ended, element, counted, repeat, toEnd, keep, rest, innerRun, sealed}
-use Rattle.rules.specs.Tables.{indexRow, lengthRow, tagOf, kindOf, sortBy}
+use Rattle.rules.specs.Tables.{indexRow, lengthRow, ownIdRow, tagOf, kindOf, sortBy, classOf}
 use Rattle.rules.specs.Objects.{has, same, paired, flagged, counts, quiet, listed, path, identified, conditionAs, conditionBody, condition, plainCondition, rule, rules, common, classBody, subclass, privateKey, certificateValue, certificate, password, typePart, typeBody, contents, objectBody, object}
 use Rattle.rules.specs.Files.{Name, File, accepted, readDump, toFill, filled, fill, ciaBody, ciaElement, ciaFill, cia, objects, namedPath, entryInside, entryBody, od, directory, directories, namesOf}
 use Rattle.rules.specs.Blocks.{closing, inner, Blocks, none, other, whole, Blocked}
 use Rattle.rules.specs.CheckLaws.{accepted-checks}
 
--- what the marks of a part count: objects of a dump, after so many of them; or something else, and then the part is inside an object or in CIAInfo
+-- what the marks of a part count: objects of a dump, after so many of them; or something else, and then the part is inside an object or in CIAInfo, and may have an own authId or not
 data Counting : Type 0 where
   after : List ℕ → ℕ → Counting
-  others : Counting
+  others : Bool → Counting
 
 -- the same, behind c marks more
 abbrev further : Counting → ℕ → Counting
 further (after d k) c = after d (k + c)
-further others c = others
+further (others own) c = others own
 
--- the kinds that stand there besides 0120: between objects each closes one, inside them none does; and so behind more marks
+-- the kinds that stand there besides 0120: between objects each closes one, inside them none does, and 0150 is there only if it may be; and so behind more marks
 abbrev fits : Counting → ℕ → Bool
 fits (after d k) kind = closing kind && not (eqb kind 0x0120)
-fits others kind = not (closing kind)
+fits (others own) kind = not (closing kind) && (not (eqb kind (ownIdRow .kind)) || own)
 
 still : (w : Counting) (c kind : ℕ) → T (fits w kind) → T (fits (further w c) kind)
 still (after d k) c kind h = h
-still others c kind h = h
+still (others own) c kind h = h
+
+-- records of kinds that stand there, inside an object or in CIAInfo
+abbrev Only : Bool → List Rec → Type 0
+Only own bs = (r : Rec) → List·Memᴰ r bs → T (fits (others own) (r .kind))
 
 -- records with their marks
 data Tally : Counting → List Rec → List ℕ → Type 0 where
   few : {d : List ℕ} {bs : List Rec} {ms : List ℕ} (k : ℕ) → Blocks d bs ms → length ms ≤ 128 - k → Tally (after d k) bs ms
-  closes-none : {bs : List Rec} {ms : List ℕ} → T (inner bs) → Tally others bs ms
-
--- two tests in one
-both : (a b : Bool) → T a → T b → T (a && b)
-both true b t u = u
-both false b t u = t
+  only : {own : Bool} {bs : List Rec} {ms : List ℕ} → Only own bs → Tally (others own) bs ms
 
 -- no record; one that fits in front; records behind records
 empty : {w : Counting} → Tally w [] []
 empty {w = after d k} = few k none (omega arith)
-empty {w = others} = closes-none tt
+empty {w = others own} = only (λ r m. absurd (List·Memᴰ·not-nil m))
 
 cons : {w : Counting} {bs : List Rec} {ms : List ℕ} (kind : ℕ) (p : List ℕ) → T (fits w kind) → Tally w bs ms → Tally w (rec kind p ∷ bs) ms
 cons kind p h (few k b l) = few k (other kind p h b) l
-cons kind p h (closes-none {bs = bs} i) = closes-none (both (not (closing kind)) (inner bs) h i)
-
-inner-append : (bs cs : List Rec) → T (inner bs) → T (inner cs) → T (inner (bs ++ cs))
-inner-append [] cs h i = i
-inner-append (b ∷ bs) cs h i = let t = all-both (not (closing (b .kind))) (inner bs) h in both (not (closing (b .kind))) (inner (bs ++ cs)) (t .0) (inner-append bs cs (t .1) i)
+cons kind p h (only f) = only (λ r m. ⊎-elim (λ e. rw e h) (f r) (List·Memᴰ·cases-cons m))
 
 blocks-append : {d : List ℕ} {bs cs : List Rec} {ms ns : List ℕ} → Blocks d bs ms → Blocks d cs ns → Blocks d (bs ++ cs) (ms ++ ns)
 blocks-append none b = b
@@ -85,7 +81,17 @@ blocks-append (whole o a) b = rw append-assoc (whole o (blocks-append a b))
 
 append : {w : Counting} {bs cs : List Rec} {ms ns : List ℕ} → Tally w bs ms → Tally (further w (length ms)) cs ns → Tally w (bs ++ cs) (ms ++ ns)
 append (few k a l) (few _ b m) = few k (blocks-append a b) (simp length-append (omega arith))
-append (closes-none {bs = bs} h) (closes-none {bs = cs} i) = closes-none (inner-append bs cs h i)
+append (only {bs = bs} f) (only g) = only (λ r m. ⊎-elim (f r) (g r) (List·Memᴰ·append-cases bs m))
+
+-- two tests in one
+both : (a b : Bool) → T a → T b → T (a && b)
+both true b t u = u
+both false b t u = t
+
+-- such records close no object
+closes-none : (own : Bool) (bs : List Rec) → Only own bs → T (inner bs)
+closes-none own [] f = tt
+closes-none own (b ∷ bs) f = both (not (closing (b .kind))) (inner bs) (all-both (not (closing (b .kind))) (not (eqb (b .kind) (ownIdRow .kind)) || own) (f b (List·Memᴰ·head refl)) .0) (closes-none own bs (λ r m. f r (List·Memᴰ·tail m)))
 
 -- what a part answers: a refusal, or records and marks of which P holds
 data Gives (P : List Rec → List ℕ → Type 0) : Res → Type 0 where
@@ -150,52 +156,66 @@ unfolding repeat
 good-repeat v q more f end item zero k at = good-test (more end at) refuses (takes empty)
 good-repeat v q more f end item (suc g) k at = good-test (more end at) (good-counted (item k at) (λ c j. rw (q k c) (good-repeat v q more f end item g (k + c) j))) (takes empty)
 
--- no row has a kind that closes an object
-abbrev plainRows : List Row → Bool
-plainRows [] = true
-plainRows (r ∷ rs) = fits others (r .kind) && plainRows rs
+-- all rows have kinds that stand inside an object
+abbrev plainRows : Bool → List Row → Bool
+plainRows own [] = true
+plainRows own (r ∷ rs) = fits (others own) (r .kind) && plainRows own rs
 
 -- an object, the one after k others, is counted by its place, whatever is inside it
-data Sole (k at : ℕ) : List Rec → List ℕ → Type 0 where
-  sole : {p : List ℕ} {rs : List Rec} → k < 128 → T (inner rs) → Sole k at (rec 0x0120 p ∷ rs) (at ∷ [])
+data Sole (own : Bool) (k at : ℕ) : List Rec → List ℕ → Type 0 where
+  sole : {p : List ℕ} {rs : List Rec} → k < 128 → Only own rs → Sole own k at (rec 0x0120 p ∷ rs) (at ∷ [])
 
-one-object : {k : ℕ} → k < 128 → (at : ℕ) (p : List ℕ) {r : Res} → Good others r → Gives (Sole k at) (counts at (also (rec 0x0120 p ∷ []) [] r))
+one-object : {own : Bool} {k : ℕ} → k < 128 → (at : ℕ) (p : List ℕ) {r : Res} → Good (others own) r → Gives (Sole own k at) (counts at (also (rec 0x0120 p ∷ []) [] r))
 one-object h at p refuses = refuses
-one-object h at p (takes (closes-none i)) = takes (sole h i)
+one-object h at p (takes (only f)) = takes (sole h f)
 
 -- and so it is a block
-block : (d : List ℕ) (entry k end at : ℕ) {r : Res} → object d entry k end at ≡ r → Gives (Sole k at) r → Good (after d k) r
+block : (d : List ℕ) (entry k end at : ℕ) {own : Bool} {r : Res} → object d entry k end at ≡ r → Gives (Sole own k at) r → Good (after d k) r
 block d entry k end at e refuses = refuses
-block d entry k end at e (takes {n = n} (sole h i)) = takes (few k (rw append-nil at (whole (record { entry = entry; nth = k; end = end; behind = n; reads = e; inside = i }) none)) (omega arith))
+block d entry k end at {own} e (takes {n = n} (sole {rs = rs} h f)) = takes (few k (rw append-nil at (whole (record { entry = entry; nth = k; end = end; behind = n; reads = e; inside = closes-none own rs f }) none)) (omega arith))
 
 -- parts and insides of elements inside an object, or in CIAInfo
-abbrev Free : Reader → Type 0
-Free p = (end at : ℕ) → Good others (p end at)
+abbrev Free : Bool → Reader → Type 0
+Free own p = (end at : ℕ) → Good (others own) (p end at)
 
-abbrev FreeBody : Body → Type 0
-FreeBody b = (at a e : ℕ) → Good others (b at a e)
+abbrev FreeBody : Bool → Body → Type 0
+FreeBody own b = (at a e : ℕ) → Good (others own) (b at a e)
 
-free-then : {p q : Reader} → Free p → Free q → Free (p then q)
-free-then f g end at = good-then (f end at) (λ _ n. g end n)
+module _ {own : Bool} where
+  free-then : {p q : Reader} → Free own p → Free own q → Free own (p then q)
+  free-then f g end at = good-then (f end at) (λ _ n. g end n)
 
-free-inside : {p : Reader} → Free p → FreeBody (inside p)
-free-inside f at a e = f e a
+  free-inside : {p : Reader} → Free own p → FreeBody own (inside p)
+  free-inside f at a e = f e a
 
--- the marks of conditions, of which there may be any number
-free-quiet : {r : Res} → Good others r → Good others (quiet r)
-free-quiet refuses = refuses
-free-quiet (takes (closes-none i)) = takes (closes-none i)
+  -- the marks of conditions, of which there may be any number
+  free-quiet : {r : Res} → Good (others own) r → Good (others own) (quiet r)
+  free-quiet refuses = refuses
+  free-quiet (takes (only f)) = takes (only f)
 
-free-counts : (at : ℕ) {r : Res} → Good others r → Good others (counts at r)
-free-counts at refuses = refuses
-free-counts at (takes (closes-none i)) = takes (closes-none i)
+  free-counts : (at : ℕ) {r : Res} → Good (others own) r → Good (others own) (counts at r)
+  free-counts at refuses = refuses
+  free-counts at (takes (only f)) = takes (only f)
 
-free-listed : (kind e : ℕ) {r : Res} → T (fits others kind) → Good others r → Good others (listed kind e r)
-free-listed kind e h refuses = refuses
-free-listed kind e h (takes {ms = ms} (closes-none i)) = good-test (leb 2 (length ms)) (takes (cons kind (le16 (length ms)) h (closes-none i))) refuses
+  free-listed : (kind e : ℕ) {r : Res} → T (fits (others own) kind) → Good (others own) r → Good (others own) (listed kind e r)
+  free-listed kind e h refuses = refuses
+  free-listed kind e h (takes {ms = ms} (only f)) = good-test (leb 2 (length ms)) (takes (cons kind (le16 (length ms)) h (only f))) refuses
 
-free-repeat : {f : ℕ → Reader} → ((k : ℕ) → Free (f k)) → (end at : ℕ) → Good others (repeat toEnd f (end - at) 0 end at)
-free-repeat {f} h end at = good-repeat (λ _. others) (λ _ _. refl) toEnd f end (λ k i. h k end i) (end - at) 0 at
+  free-repeat : {f : ℕ → Reader} → ((k : ℕ) → Free own (f k)) → (end at : ℕ) → Good (others own) (repeat toEnd f (end - at) 0 end at)
+  free-repeat {f} h end at = good-repeat (λ _. others own) (λ _ _. refl) toEnd f end (λ k i. h k end i) (end - at) 0 at
+
+-- only the attributes of authentication objects have an own authId
+abbrev owns : Class → Bool
+owns Keys = false
+owns Certificates = false
+owns Containers = false
+owns Authentications = true
+
+owner : (c : Class) → T (owns c) → c ≡ Authentications
+owner Keys h = absurd h
+owner Certificates h = absurd h
+owner Containers h = absurd h
+owner Authentications h = refl
 
 module _ (s : List ℕ) where
   -- elements, components, rests and fill
@@ -220,11 +240,11 @@ module _ (s : List ℕ) where
       go (No x p) = refuses
       go (At t a e) = good-test (eqb t tag) (f at a e) (lacks need refuses)
 
-  good-components : (rows : List Row) → T (plainRows rows) → Free (components s rows)
+  good-components : {own : Bool} (rows : List Row) → T (plainRows own rows) → Free own (components s rows)
   unfolding components rowBody
   good-components [] h end at = takes empty
-  good-components (r ∷ rs) h end at =
-      let i = all-both (fits others (r .kind)) (plainRows rs) h in
+  good-components {own} (r ∷ rs) h end at =
+      let i = all-both (fits (others own) (r .kind)) (plainRows own rs) h in
       good-then (good-component (r .tag) (r .need) (λ j a e. good-valued r j e (judged r (slice a e s) (value (r .form) (slice a e s))) (i .0)) end at) (λ _ n. good-components rs (i .1) end n)
 
   good-ended : {w : Counting} (end at : ℕ) → Good w (ended s end at)
@@ -248,86 +268,88 @@ module _ (s : List ℕ) where
   unfolding fill
   good-fill {w} kind h end at = good-test (ltb at end) (good-then (good-filled (getD s at 0) (end - at) end at) (λ c n. good-one kind (getD s at 0 ∷ le16 (end - at)) (still w c kind h))) (takes empty)
 
-  free-element : {b : ℕ → Body} → ((t : ℕ) → FreeBody (b t)) → Free (element s b)
+  free-element : {own : Bool} {b : ℕ → Body} → ((t : ℕ) → FreeBody own (b t)) → Free own (element s b)
   free-element = good-element
 
   -- all that stands in an object, and CIAInfo
   ruleset free = (free-then, free-inside, good-paired, good-flagged, free-element, good-component, good-components, good-ended, good-rest, good-sealed)
 
-  free-path : FreeBody (path s)
-  unfolding path
-  free-path = search free
+  module _ {own : Bool} where
+    free-path : FreeBody own (path s)
+    unfolding path
+    free-path = search free
 
-  -- conditions, by their sort and by their levels
-  free-as : (inner : ℕ → Reader) → ((k : ℕ) → Free (inner k)) → (x : Sort) (t : ℕ) → FreeBody (conditionAs s inner x t)
-  unfolding conditionAs identified
-  free-as inner f Always t at a e = good-one (kindOf Always) [] tt
-  free-as inner f Identifier t at a e = good-test (leb (e - a) 255) (good-one (kindOf Identifier) (slice a e s) tt) refuses
-  free-as inner f Not t at a e = good-front (kindOf Not) [] tt (free-then (f 0) good-ended e a)
-  free-as inner f And t at a e = free-listed (kindOf And) e tt (free-repeat f e a)
-  free-as inner f Or t at a e = free-listed (kindOf Or) e tt (free-repeat f e a)
-  free-as inner f Other t at a e = good-sealed (kindOf Other) [] tt t at a e
+    -- conditions, by their sort and by their levels
+    free-as : (inner : ℕ → Reader) → ((k : ℕ) → Free own (inner k)) → (x : Sort) (t : ℕ) → FreeBody own (conditionAs s inner x t)
+    unfolding conditionAs identified
+    free-as inner f Always t at a e = good-one (kindOf Always) [] tt
+    free-as inner f Identifier t at a e = good-test (leb (e - a) 255) (good-one (kindOf Identifier) (slice a e s) tt) refuses
+    free-as inner f Not t at a e = good-front (kindOf Not) [] tt (free-then (f 0) good-ended e a)
+    free-as inner f And t at a e = free-listed (kindOf And) e tt (free-repeat f e a)
+    free-as inner f Or t at a e = free-listed (kindOf Or) e tt (free-repeat f e a)
+    free-as inner f Other t at a e = good-sealed (kindOf Other) [] tt t at a e
 
-  free-condition : (l k : ℕ) → Free (condition s l k)
-  unfolding condition conditionBody
-  free-condition zero k end at = good-test (ltb at end) refuses refuses
-  free-condition (suc l) k end at = free-counts at (good-element (λ t i a e.
-      good-test (eqb t (tagOf Always) && ltb a e) refuses (good-test (ltb 255 (k + 1)) refuses (free-as (condition s l) (free-condition l) (sortBy tagOf t) t i a e))) end at)
+    free-condition : (l k : ℕ) → Free own (condition s l k)
+    unfolding condition conditionBody
+    free-condition zero k end at = good-test (ltb at end) refuses refuses
+    free-condition (suc l) k end at = free-counts at (good-element (λ t i a e.
+        good-test (eqb t (tagOf Always) && ltb a e) refuses (good-test (ltb 255 (k + 1)) refuses (free-as (condition s l) (free-condition l) (sortBy tagOf t) t i a e))) end at)
 
-  free-rule : FreeBody (rule s)
-  unfolding rule plainCondition
-  free-rule = search (free, free-quiet, free-condition 8 0)
+    free-rule : FreeBody own (rule s)
+    unfolding rule plainCondition
+    free-rule = search (free, free-quiet, free-condition 8 0)
 
-  free-rules : FreeBody (rules s)
-  unfolding rules
-  free-rules at a e = good-then (good-component 0x30 Required free-rule e a) (λ _ n. free-repeat (λ _. good-component 0x30 Required free-rule) e n)
+    free-rules : FreeBody own (rules s)
+    unfolding rules
+    free-rules at a e = good-then (good-component 0x30 Required free-rule e a) (λ _ n. free-repeat (λ _. good-component 0x30 Required free-rule) e n)
 
-  free-common : FreeBody (common s)
-  unfolding common
-  free-common = search (free, free-rules)
+    free-common : FreeBody own (common s)
+    unfolding common
+    free-common = search (free, free-rules)
 
-  free-class : (c : Class) → FreeBody (classBody s c)
+    free-subclass : FreeBody own (subclass s)
+    unfolding subclass
+    free-subclass = search free
+
+    free-private : FreeBody own (privateKey s)
+    unfolding privateKey
+    free-private = search (free, free-path)
+
+    free-certificate : FreeBody own (certificate s)
+    unfolding certificate certificateValue
+    free-certificate = free-inside (free-then (good-element (λ t at a e. good-test (eqb t 0x30) (free-path at a e) (good-sealed 0x0184 [] tt t at a e))) (good-rest 0x018f [] tt))
+
+    free-password : FreeBody own (password s)
+    unfolding password
+    free-password = search (free, free-path)
+
+    free-type : (x : ObjectType) → FreeBody own (typeBody s x)
+    unfolding typeBody typePart
+    free-type PrivateKey = search (free, free-private)
+    free-type Certificate = search (free, free-certificate)
+    free-type Password = search (free, free-password)
+    free-type Sealed = search free
+
+  -- an own authId, by the class; CIAInfo has none
+  free-class : (c : Class) → FreeBody (owns c) (classBody s c)
   unfolding classBody
   free-class Keys = search free
   free-class Certificates = search free
   free-class Authentications = search free
   free-class Containers = search good-keep
 
-  free-subclass : FreeBody (subclass s)
-  unfolding subclass
-  free-subclass = search free
-
-  free-private : FreeBody (privateKey s)
-  unfolding privateKey
-  free-private = search (free, free-path)
-
-  free-certificate : FreeBody (certificate s)
-  unfolding certificate certificateValue
-  free-certificate = free-inside (free-then (good-element (λ t at a e. good-test (eqb t 0x30) (free-path at a e) (good-sealed 0x0184 [] tt t at a e))) (good-rest 0x018f [] tt))
-
-  free-password : FreeBody (password s)
-  unfolding password
-  free-password = search (free, free-path)
-
-  free-type : (x : ObjectType) → FreeBody (typeBody s x)
-  unfolding typeBody typePart
-  free-type PrivateKey = search (free, free-private)
-  free-type Certificate = search (free, free-certificate)
-  free-type Password = search (free, free-password)
-  free-type Sealed = search free
-
-  free-contents : (entry tag : ℕ) → Free (contents s entry tag)
+  free-contents : (entry tag : ℕ) → Free (owns (classOf entry)) (contents s entry tag)
   unfolding contents
   free-contents entry tag = search (free, free-common, free-class, free-subclass, free-type) depth 9
 
-  free-cia : Free (cia s)
+  free-cia : Free false (cia s)
   unfolding cia ciaElement ciaFill ciaBody
   free-cia = free-then (λ end at. good-test (toFill s end at) (search free) refuses) (λ end at. good-test (toFill s end at) (good-surplus at (header s at end)) (good-fill 0x0108 tt end at))
 
   -- objects, entries and files, each after those before it
-  sole-object : (entry k end at : ℕ) → Gives (Sole k at) (object s entry k end at)
+  sole-object : (entry k end at : ℕ) → Gives (Sole (owns (classOf entry)) k at) (object s entry k end at)
   unfolding object objectBody
-  sole-object entry k end at = by-choose (Gives (Sole k at)) (ltb k 128)
+  sole-object entry k end at = by-choose (Gives (Sole (owns (classOf entry)) k at)) (ltb k 128)
       (λ _ h. good-element (λ t i a e. good-test (eqb t 0x30 || (leb 0xa0 t && leb t 0xa7)) (one-object (ltb-true k 128 h) i (entry ∷ t ∷ []) (free-contents entry t e a)) refuses) end at)
       (λ _ _. refuses)
 
@@ -363,9 +385,9 @@ module _ (s : List ℕ) where
   good-directories (n ∷ ns) (f ∷ fs) k = good-counted (good-directory (n .tag) k (f .stop) (f .start)) (λ c _. good-directories ns fs (k + c))
 
 -- CIAInfo's records, EF.OD's, and the files'
-together : {d : List ℕ} {bs cs ds : List Rec} {ls ms ns : List ℕ} {i j k : ℕ} → Good others (took bs ls i) → Good (after d 0) (took cs ms j) → Good (after d (length ms)) (took ds ns k) → Blocked d (bs ++ (cs ++ ds))
-together {bs = bs} {cs} {ds} {ms = ms} {ns} (takes (closes-none h)) (takes (few _ a l)) (takes (few _ b m)) =
-    record { info = bs; others = cs ++ ds; places = ms ++ ns; whole = refl; outside = h; blocks = blocks-append a b; few = simp length-append (omega arith) }
+together : {d : List ℕ} {bs cs ds : List Rec} {ls ms ns : List ℕ} {i j k : ℕ} → Good (others false) (took bs ls i) → Good (after d 0) (took cs ms j) → Good (after d (length ms)) (took ds ns k) → Blocked d (bs ++ (cs ++ ds))
+together {bs = bs} {cs} {ds} {ms = ms} {ns} (takes (only f)) (takes (few _ a l)) (takes (few _ b m)) =
+    record { info = bs; others = cs ++ ds; places = ms ++ ns; whole = refl; outside = closes-none false bs f; blocks = blocks-append a b; few = simp length-append (omega arith) }
 
 -- "At most 128 objects (house), numbered from 0 in book order": an accepted book has each whole, and no more than that
 pub blocked : (d : List ℕ) (rs : List Rec) → readDump d ≡ accepted rs → Blocked d rs
@@ -375,3 +397,12 @@ blocked d rs e =
     (rw (w .info-read) at (free-cia d (w .info .stop) (w .info .start)))
     (rw (w .list-read) at (good-od d (w .list .stop) (w .list .start)))
     (rw (w .others-read) at (good-directories d (namesOf (w .cs)) (w .others) (length (w .ms)))))
+
+-- an own authId inside an object is one that may be there
+own-inside : {own : Bool} {k at n : ℕ} {bs : List Rec} {ms x : List ℕ} → Gives (Sole own k at) (took bs ms n) → List·Memᴰ (rec (ownIdRow .kind) x) bs → T own
+own-inside (takes (sole h f)) (List·Memᴰ·head e) = absurd (omega (arith, ap (λ (r : Rec). r .kind) e))
+own-inside (takes (sole h f)) (List·Memᴰ·tail m) = f _ m
+
+-- "authentication objects with equal own authId": no other object has one
+pub own-id : (d : List ℕ) (entry k end at : ℕ) {n : ℕ} {bs : List Rec} {ms : List ℕ} → object d entry k end at ≡ took bs ms n → (x : List ℕ) → List·Memᴰ (rec (ownIdRow .kind) x) bs → classOf entry ≡ Authentications
+own-id d entry k end at e x m = owner (classOf entry) (own-inside (rw e at (sole-object d entry k end at)) m)

@@ -1,10 +1,10 @@
 -- The records of any bytes.
 use Prim.Native.Nat.{ℕ, zero, suc, _+_, _-_, _*_, _<_, _≤_}
 use mathlib.Core.Path.{_≡_, refl, sym, ap, _∙_}
-use mathlib.Core.Bool.{Bool, true, false}
-use mathlib.Core.List.{List, [], _∷_, _++_, append-assoc}
+use mathlib.Core.Bool.{false}
+use mathlib.Core.List.{List, [], _∷_}
 use native.Mathlib.Omega.{arith}
-use lib.ListN.{length, getD, take, drop, length-append, length-drop, drop-of-length-le, List·getD-eq-default}
+use lib.ListN.{length, getD, take, drop, length-drop, drop-of-length-le, List·getD-eq-default}
 use lib.Seq.{slice, take-all, drop-cons, drop-drop, drop-length, getD-drop, getD-take, length-slice}
 use lib.Dec.{eqb}
 use Rattle.elements.specs.Lists.{lent}
@@ -101,3 +101,11 @@ byte-none b p e k h l = sym (List·getD-eq-default (slice p e b) 0 (omega (arith
 
 pub byte-some : (b : List ℕ) (p e k : ℕ) → k < e - p → getD b (p + k) 0 ≡ getD (slice p e b) k 0
 byte-some b p e k l = sym (getD-drop p (take e b) k 0 ∙ getD-take e b (p + k) 0 (omega arith))
+
+-- any two ends that a record may have are equal
+pub one-end : {b : List ℕ} {i e f : ℕ} → Ends b i e → Ends b i f → e ≡ f
+one-end {b} {i} {e} {f} h g =
+    let q : rec (two b (i + 2)) (slice (i + 4) e b) ∷ recordsFrom b e ≡ rec (two b (i + 2)) (slice (i + 4) f b) ∷ recordsFrom b f = sym (h .is) ∙ g .is in
+    let w : rec (two b (i + 2)) (slice (i + 4) e b) ≡ rec (two b (i + 2)) (slice (i + 4) f b) = cc in
+    let n : e - (i + 4) ≡ f - (i + 4) = sym (length-slice (i + 4) e b (h .high)) ∙ ap (λ (r : Rec). length (r .pay)) w ∙ length-slice (i + 4) f b (g .high) in
+    omega (arith, n, h .low, g .low)

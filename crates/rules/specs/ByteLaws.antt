@@ -4,7 +4,7 @@ use mathlib.Core.List.{List, [], _∷_, _++_}
 use mathlib.Core.Bool.{Bool, true, false, _&&_}
 use native.Mathlib.Omega.{arith}
 use lib.ListN.{length, getD, take, drop, replicate}
-use lib.Dec.{ltb, leb, eqb, T, ltb→lt}
+use lib.Dec.{ltb, eqb, T, ltb→lt}
 use borrow.Author.Tests.{ltb-true}
 use Rattle.elements.specs.Choice.{choose}
 use Rattle.elements.specs.Sealed.{among}

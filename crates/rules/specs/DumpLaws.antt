@@ -10,7 +10,6 @@ use lib.Seq.{slice, slice-empty, length-slice, take-length, take-at}
 use lib.Dec.{ltb, leb, eqb, T, eqb→eq}
 use borrow.Author.Tests.{ltb-false, leb-true, eqb-true}
 use Rattle.elements.specs.declared.fault.Fault.{Fault}
-use Rattle.elements.specs.Sealed.{among}
 use Rattle.rules.specs.Reading.{Rec, Res, took, fails, also}
 use Rattle.rules.specs.Parts.{counted}
 use Rattle.rules.specs.Files.{Name, File, Framed, framed, broken, Files, files, brokenAt, Check, fine, wrongAt, Answer, accepted, refused, namesOf, paths, equal, two, frameOf, fileIn, frame, namedFile, namedFrame, consFile, moreFiles, frames, pathOf, firstAgain, entryPlace, follow, directories, onFramed, onFiles, onRes, onCheck, readFiles, readParts, readDump}

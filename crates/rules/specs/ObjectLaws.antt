@@ -11,7 +11,7 @@ use borrow.Author.Tests.{ltb-false, eqb-true, eq-eqb, ne-eqb}
 use Rattle.elements.specs.Choice.{choose}
 use Rattle.elements.specs.Put.{le16}
 use Rattle.elements.specs.ChoiceLaws.{by-choose}
-use Rattle.rules.specs.Reading.{Rec, rec, Res, took, fails, also, _then_, Reader, Body, count, number}
+use Rattle.rules.specs.Reading.{Rec, rec, Res, took, fails, also, _then_, Reader, count, number}
 use Rattle.rules.specs.declared.table.Need.the-variants.{Required, Optional}
 use Rattle.elements.specs.Sealed.{among, sealedRun}
 use Rattle.rules.specs.declared.table.ObjectType.{ObjectType}

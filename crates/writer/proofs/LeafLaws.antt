@@ -1,12 +1,12 @@
 -- What is made of single records, and of a sequence's rows.
 use Prim.Native.Nat.{ℕ, _+_, _-_, _*_, _<_, _≤_}
-use mathlib.Core.Path.{_≡_, refl, sym, ap, _∙_}
+use mathlib.Core.Path.{_≡_, refl, _∙_}
 use mathlib.Core.Bool.{Bool, true, false}
 use mathlib.Core.List.{List, [], _∷_, _++_, append-assoc, append-nil}
 use native.Mathlib.Numerals.{add-one}
 use native.Mathlib.Omega.{arith}
-use lib.ListN.{length, getD, take, drop, set, replicate, length-replicate, length-set, replicate-append-replicate, drop-of-length-le}
-use lib.Seq.{slice, slice-cons, length-take-le, drop-cons, drop-drop, getD-drop}
+use lib.ListN.{length, getD, drop, set, replicate, length-replicate, length-set, replicate-append-replicate, drop-of-length-le}
+use lib.Seq.{slice, drop-cons, getD-drop}
 use Rattle.elements.specs.declared.answer.Form.{Form}
 use Rattle.elements.specs.declared.answer.Form.the-variants.{Integer, Bits, Boolean, Octets, Text, Time, Null}
 use Rattle.elements.specs.Integer.{integerBytes}
@@ -24,18 +24,6 @@ use Rattle.rules.specs.Book.{recordsFrom, Ends, nextIs}
 use Rattle.writer.specs.Making.{Makes, breaks}
 use Rattle.writer.proofs.MadeLaws.{makes-none, makes-as, makes-same, made-room, made-high, then-long, then-took, when-yes, when-no, from-none, from-some, puts-took, puts-long}
 
--- a byte of a payload
-module _ (b : List ℕ) (p e : ℕ) where
-  pub byte-there : p < e → e ≤ length b → getD b p 0 ≡ getD (slice p e b) 0 0
-  byte-there h l = rw (slice-cons p e b 0 h l) refl
-
-  pub byte-none : e ≤ p → e ≤ length b → 0 ≡ getD (slice p e b) 0 0
-  byte-none h l = let n : length (take e b) ≡ e = length-take-le e b l in rw (drop-of-length-le (take e b) {i = p} (omega arith)) refl
-
-  -- one that stands k places further
-  pub byte-further : (k : ℕ) → getD (slice (p + k) e b) 0 0 ≡ getD (slice p e b) k 0
-  byte-further k = rw (← drop-drop k p (take e b)) (getD-drop k (slice p e b) 0 0 ∙ (let z : k + 0 ≡ k = omega arith in rw z refl))
-
 -- the number in a payload's first bytes
 count-is : (l : List ℕ) → getD l 0 0 + 256 * getD l 1 0 ≡ count l
 unfolding count
@@ -51,12 +39,11 @@ number-is (a ∷ b ∷ []) = omega arith
 number-is (a ∷ b ∷ c ∷ []) = omega arith
 number-is (a ∷ b ∷ c ∷ d ∷ l) = omega arith
 
-module _ (b : List ℕ) (p e : ℕ) {x y : ℕ} (h : x ≡ getD (slice p e b) 0 0) (i : y ≡ getD (slice (p + 1) e b) 0 0) where
-  pub count-two : {r : ℕ} → r ≡ x + 256 * y → r ≡ count (slice p e b)
-  count-two q = q ∙ rw (h, i, byte-further b p e 1) (count-is (slice p e b))
+pub count-two : (l : List ℕ) (k : ℕ) {x y r : ℕ} → x ≡ getD l k 0 → y ≡ getD l (k + 1) 0 → r ≡ x + 256 * y → r ≡ count (drop k l)
+count-two l k h i q = let z : k + 0 ≡ k = omega arith in q ∙ rw (h, i) (rw (getD-drop k l 0 0, getD-drop k l 1 0, z) at (count-is (drop k l)))
 
-  pub number-four : {z w r : ℕ} → z ≡ getD (slice (p + 2) e b) 0 0 → w ≡ getD (slice (p + 3) e b) 0 0 → r ≡ x + 256 * y + 65536 * z + 16777216 * w → r ≡ number (slice p e b)
-  number-four j k q = q ∙ rw (h, i, j, k, byte-further b p e 1, byte-further b p e 2, byte-further b p e 3) (number-is (slice p e b))
+pub number-four : (l : List ℕ) {x y z w r : ℕ} → x ≡ getD l 0 0 → y ≡ getD l 1 0 → z ≡ getD l 2 0 → w ≡ getD l 3 0 → r ≡ x + 256 * y + 65536 * z + 16777216 * w → r ≡ number l
+number-four l h i j k q = q ∙ rw (h, i, j, k) (number-is l)
 
 -- the contents that a payload tells
 module _ {a c : List ℕ} {o q : ℕ} {f : Form} (p : List ℕ) where
@@ -141,17 +128,14 @@ module _ {a c : List ℕ} {o x n k : ℕ} (h : Alike a c o x n k) where
 abbrev fillOf : ℕ → List ℕ → Renderer
 fillOf k p rs = gives (replicate (count (drop 1 p)) (getD p 0 0)) rs
 
-behind-byte : (b : List ℕ) (i e : ℕ) {n : ℕ} → n ≡ count (slice (i + 5) e b) → n ≡ count (drop 1 (slice (i + 4) e b))
-behind-byte b i e z = z ∙ ap count (let w : i + 5 ≡ i + 4 + 1 = omega arith in rw w (sym (drop-drop 1 (i + 4) (take e b))))
-
-module _ {b a : List ℕ} {i e o n : ℕ} (h : Ends b i e) (z : n ≡ count (slice (i + 5) e b)) where
+module _ {b a : List ℕ} {i e o n : ℕ} (h : Ends b i e) (z : n ≡ count (drop 1 (slice (i + 4) e b))) where
   pub same-long : length a - o < n → o ≤ length a → Makes b a a i o (from fillOf (recordsFrom b i)) Long
   same-long l m =
       let w = getD (slice (i + 4) e b) 0 0 in
-      from-some fillOf h (breaks {w = fillOf 0 (slice (i + 4) e b) (recordsFrom b e)} (rw (← behind-byte b i e z) (omega (arith, length-replicate n w))) refl)
+      from-some fillOf h (breaks {w = fillOf 0 (slice (i + 4) e b) (recordsFrom b e)} (rw (← z) (omega (arith, length-replicate n w))) refl)
 
   pub same-took : {c : List ℕ} {x : ℕ} → n ≤ length a - o → o ≤ length a → x ≡ getD (slice (i + 4) e b) 0 0 → Put a c o (o + n) (replicate n x) → Makes b a c i o (from fillOf (recordsFrom b i)) (Took e (o + n))
-  same-took l m y d = from-some fillOf h (rw (← behind-byte b i e z, ← y) (puts-took d (h .high) (omega arith)))
+  same-took l m y d = from-some fillOf h (rw (← z, ← y) (puts-took d (h .high) (omega arith)))
 
 module _ (k : ℕ) (b : List ℕ) (i : ℕ) {t : Bool} (e : t ≡ nextIs k (recordsFrom b i)) {a : List ℕ} {o : ℕ} where
   pub fill-yes : {c : List ℕ} {r : Made} → t ≡ true → Makes b a c i o (from fillOf (recordsFrom b i)) r → Makes b a c i o (rFill k (recordsFrom b i)) r

@@ -1,19 +1,18 @@
 -- How what is made is put together.
-use Prim.Native.Nat.{ℕ, zero, suc, _+_, _-_, _*_, _<_, _≤_}
+use Prim.Native.Nat.{ℕ, suc, _+_, _-_, _<_, _≤_}
 use mathlib.Core.Path.{_≡_, refl, sym, ap, _∙_}
 use mathlib.Core.Bool.{Bool, true, false}
 use mathlib.Core.List.{List, [], _∷_, _++_, append-assoc, append-nil}
 use native.Mathlib.Omega.{arith}
-use lib.ListN.{length, getD, take, drop, set, length-append, length-drop, length-set, take-append-drop, List·getD-append}
-use lib.Seq.{slice, sets, take-at, drop-at, take-take, drop-drop, take-suc, slice-cons, slice-empty, set-append-left, set-at, getD-take, length-take-le, take-append-le, sets-eq, drop-append-le}
-use lib.Dec.{ltb, eqb}
+use lib.ListN.{length, getD, take, drop, set, length-append, length-set, take-append-drop, List·getD-append}
+use lib.Seq.{slice, drop-at, take-take, drop-drop, take-suc, slice-cons, slice-empty, set-at, getD-take, length-take-le, take-append-le, sets-eq}
 use borrow.Author.Tests.{lt-ltb, le-ltb}
 use Rattle.elements.specs.ChoiceLaws.{by-less}
 use Rattle.rules.specs.BookLaws.{from-few}
 use Rattle.elements.specs.Length.{shortest, wrap}
 use Rattle.elements.specs.Lists.{join}
 use Rattle.elements.specs.Put.{Put}
-use Rattle.elements.specs.PutLaws.{put-none, put-put, put-then, put-length, put-fits, put-there}
+use Rattle.elements.specs.PutLaws.{put-none, put-put, put-length, put-fits, put-there}
 use Rattle.writer.specs.declared.made.Made.{Made}
 use Rattle.writer.specs.declared.made.Made.the-variants.{Took, Long}
 use Rattle.rules.specs.Reading.{Rec, rec}

@@ -1,24 +1,20 @@
 -- EF.OD's entries, made.
 use Prim.Native.Nat.{ℕ, _+_, _-_, _<_, _≤_}
-use mathlib.Core.Path.{_≡_, refl, sym, ap, _∙_}
-use mathlib.Core.Bool.{Bool, true, false}
-use mathlib.Core.List.{List, [], _∷_, _++_}
+use mathlib.Core.Path.{_≡_, refl, sym, _∙_}
+use mathlib.Core.List.{List}
 use native.Mathlib.Omega.{arith}
-use lib.ListN.{length, getD, take, drop, drop-of-length-le, List·getD-eq-default}
-use lib.Seq.{slice, slice-empty, drop-drop, getD-drop, getD-take, length-slice}
-use lib.Dec.{ltb, eqb}
-use borrow.Author.Tests.{lt-ltb, le-ltb, eq-eqb, ne-eqb}
+use lib.ListN.{length, getD, take, drop-of-length-le}
+use lib.Seq.{slice, slice-empty, drop-drop, length-slice}
+use borrow.Author.Tests.{lt-ltb, le-ltb, ne-eqb}
 use Rattle.elements.specs.Length.{wrap}
 use Rattle.elements.specs.Put.{Put}
-use Rattle.elements.specs.PutLaws.{put-length}
 use Rattle.writer.specs.declared.made.Made.{Made}
 use Rattle.writer.specs.declared.made.Made.the-variants.{Took, Long}
-use Rattle.rules.specs.Reading.{Rec, rec}
-use Rattle.rules.specs.Files.{two}
-use Rattle.rules.specs.Render.{Rendered, gives, Renderer, within, from, rObjects, rInside, rEntryOf, rEntry}
+use Rattle.rules.specs.Reading.{Rec}
+use Rattle.rules.specs.Render.{Rendered, gives, Renderer, within, rObjects, rInside, rEntryOf, rEntry}
 use Rattle.rules.specs.Book.{recordsFrom, Ends}
-use Rattle.writer.specs.Making.{Steps, Makes, makes, breaks, Onward, Tail, KnownMade, Closed, Wraps, wraps, over}
-use Rattle.writer.proofs.MadeLaws.{steps-one, steps-then, steps-none, steps-fewer, makes-as, makes-behind, makes-same, made-steps, made-put, made-room, from-some, within-short, within-long, within-took, onward-long}
+use Rattle.writer.specs.Making.{Makes, makes, breaks, Onward, Tail, KnownMade, Closed, Wraps, wraps, over}
+use Rattle.writer.proofs.MadeLaws.{steps-none, steps-fewer, makes-as, makes-behind, makes-same, made-steps, made-put, made-room, from-some, within-short, within-long, within-took, onward-long}
 
 -- an entry's own bytes
 pub tail-none : (i e : ℕ) → e < i + 6 → Tail i e e

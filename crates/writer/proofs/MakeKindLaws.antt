@@ -1,17 +1,16 @@
 -- The types of objects that are made: the ways through their code.
-use Prim.Native.Nat.{ℕ, _≤_}
+use Prim.Native.Nat.{ℕ}
 use mathlib.Core.Path.{_≡_, refl, sym, _∙_}
 use mathlib.Core.Bool.{Bool, true, false}
 use mathlib.Core.List.{List, [], _∷_}
 use native.Mathlib.Omega.{arith}
-use lib.ListN.{length}
 use Rattle.writer.specs.declared.made.Made.{Made}
 use Rattle.writer.specs.declared.made.Made.the-variants.{Took, Long}
 use Rattle.rules.specs.declared.table.ObjectType.{ObjectType}
 use Rattle.rules.specs.declared.table.ObjectType.the-variants.{PrivateKey, Certificate, Password, Sealed}
 use Rattle.rules.specs.Reading.{Rec}
 use Rattle.rules.specs.Tables.{pathRows, privateRows, passwordRows, mark}
-use Rattle.rules.specs.Render.{Rendered, Renderer, _next_, within, when, either, plain, rRows, rKeep, rPath, rPrivate, rCertificate, rPassword, rType}
+use Rattle.rules.specs.Render.{Renderer, _next_, within, when, either, plain, rRows, rKeep, rPath, rPrivate, rCertificate, rPassword, rType}
 use Rattle.rules.specs.Book.{recordsFrom, nextIs}
 use Rattle.writer.specs.Making.{Makes}
 use Rattle.writer.proofs.MadeLaws.{makes-as, then-long, then-took}

@@ -1,25 +1,25 @@
 -- The dump that could have a book, made.
-use Prim.Native.Nat.{ℕ, suc, _+_, _-_, _%_, _<_, _≤_}
+use Prim.Native.Nat.{ℕ, _+_, _-_, _%_, _<_, _≤_}
 use mathlib.Core.Path.{_≡_, refl, sym, ap, _∙_}
 use mathlib.Core.Bool.{Bool, true, false, _&&_}
 use mathlib.Core.List.{List, [], _∷_, _++_, append-assoc, append-nil}
 use native.Mathlib.Omega.{arith}
 use lib.ListN.{length, getD, drop, length-append}
-use lib.Seq.{slice, slice-cons, length-slice}
+use lib.Seq.{slice, length-slice}
 use lib.Dec.{leb, eqb}
-use borrow.Author.Tests.{le-leb, lt-leb, eq-eqb, ne-eqb, eqb-true, leb-true}
+use borrow.Author.Tests.{le-leb, lt-leb, eq-eqb, ne-eqb, leb-true}
 use Rattle.elements.specs.Choice.{choose}
 use Rattle.elements.specs.Put.{Put, le16}
-use Rattle.elements.specs.PutLaws.{put-none, put-put, put-then, put-length}
+use Rattle.elements.specs.PutLaws.{put-none, put-put, put-length}
 use Rattle.elements.specs.Record.{recordBytes}
 use Rattle.writer.specs.declared.made.Made.{Made}
 use Rattle.writer.specs.declared.made.Made.the-variants.{Took, Long}
 use Rattle.rules.specs.Reading.{Rec, rec}
-use Rattle.rules.specs.Files.{Name, two, namesOf, nameOf}
+use Rattle.rules.specs.Files.{Name, two, namesOf}
 use Rattle.rules.specs.Book.{records, recordsFrom, Ends}
 use Rattle.rules.specs.Render.{Rendered, gives, rCia, rOd, rDirectory, rDirectories, framing, used, render}
 use Rattle.rules.specs.DumpLaws.{used-is}
-use Rattle.writer.specs.Making.{Walk, there, onto, Steps, Makes, makes, breaks, Moved, Fronted, Fitted, fits, beyond, names, Named, FileMade, FilesMade, TwoMade}
+use Rattle.writer.specs.Making.{Walk, there, onto, Steps, Makes, makes, breaks, Fronted, Fitted, fits, beyond, names, Named, FileMade, FilesMade, TwoMade}
 use Rattle.writer.proofs.MakeEntryLaws.{tail-some}
 use Rattle.writer.proofs.MadeLaws.{closed-up, moved-same, makes-same, made-put, made-left, made-room, made-steps, made-long, made-high}
 

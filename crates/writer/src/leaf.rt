@@ -7,6 +7,7 @@ use elements::put_integer;
 use elements::put_part;
 use rules::Row;
 use rules::Sequence;
+use rules::byte_at;
 use rules::is_next;
 use rules::of_two;
 use rules::record_end;
@@ -22,23 +23,12 @@ ghost use Rattle.rules.specs.Render.{gives, within, from, plain, unvalue, rRow,
 ghost use Rattle.rules.specs.Book.{recordsFrom};
 ghost use Rattle.writer.specs.Making.{Making, Makes};
 
-// The byte at p of a payload that ends at e; 0 if it has none there.
-pub fn first_byte(b: &[u8], p: usize, e: usize) -> u8
-    requires { ⌜ e ≤ length (now b) ⌝ }
-    ensures { λ r. ⌜ r ≡ getD (slice p e (now (b .entry))) 0 0 ⌝ }
+// The number in two bytes of a payload, from its k-th on.
+pub fn count_at(b: &[u8], p: usize, e: usize, k: usize) -> usize
+    requires { ⌜ (p ≤ e) × (e ≤ length (now b)) × (k < 2 ^ 62) ⌝ }
+    ensures { λ r. ⌜ r ≡ count (drop k (slice p e (now (b .entry)))) ⌝ }
 {
-    if p < e {
-        return b[p];
-    }
-    0
-}
-
-// The number in two bytes of a payload.
-pub fn count_at(b: &[u8], p: usize, e: usize) -> usize
-    requires { ⌜ (e ≤ length (now b)) × (p < 2 ^ 62) ⌝ }
-    ensures { λ r. ⌜ r ≡ count (slice p e (now (b .entry))) ⌝ }
-{
-    of_two(first_byte(b, p, e), first_byte(b, p + 1, e))
+    of_two(byte_at(b, p, e, k), byte_at(b, p, e, k + 1))
 }
 
 // A number in four bytes, the low one first.
@@ -50,14 +40,14 @@ fn of_four(x: u8, y: u8, z: u8, w: u8) -> u32
 
 // The number in four bytes of a payload.
 fn number_at(b: &[u8], p: usize, e: usize) -> u32
-    requires { ⌜ (e ≤ length (now b)) × (p < 2 ^ 62) ⌝ }
+    requires { ⌜ (p ≤ e) × (e ≤ length (now b)) ⌝ }
     ensures { λ r. ⌜ r ≡ number (slice p e (now (b .entry))) ⌝ }
 {
     of_four(
-        first_byte(b, p, e),
-        first_byte(b, p + 1, e),
-        first_byte(b, p + 2, e),
-        first_byte(b, p + 3, e),
+        byte_at(b, p, e, 0),
+        byte_at(b, p, e, 1),
+        byte_at(b, p, e, 2),
+        byte_at(b, p, e, 3),
     )
 }
 
@@ -76,7 +66,7 @@ fn put_value(b: &[u8], p: usize, e: usize, form: Form, out: &mut [u8], o: usize)
     match form {
         Form::Integer => put_integer(out, o, false, number_at(b, p, e)),
         Form::Bits => put_flags(out, o, number_at(b, p, e)),
-        Form::Boolean => put_boolean(out, o, of_one(first_byte(b, p, e))),
+        Form::Boolean => put_boolean(out, o, of_one(byte_at(b, p, e, 0))),
         Form::Octets => put_part(out, o, b, p, e),
         Form::Text => put_part(out, o, b, p, e),
         Form::Time => put_part(out, o, b, p, e),
@@ -137,11 +127,11 @@ fn make_same(b: &[u8], i: usize, out: &mut [u8], o: usize) -> Made
     ensures { λ r. ⌜ Makes (now (b .entry)) (now (out .entry)) (now (out .exit)) i o (from (λ k p rs. gives (replicate (count (drop 1 p)) (getD p 0 0)) rs) (recordsFrom (now (b .entry)) i)) r ⌝ }
 {
     let e = record_end(b, i);
-    let n = count_at(b, i + 5, e);
+    let n = count_at(b, i + 4, e, 1);
     if out.len() - o < n {
         return Made::Long;
     }
-    put_same(out, o, first_byte(b, i + 4, e), n);
+    put_same(out, o, byte_at(b, i + 4, e, 0), n);
     Made::Took(e, o + n)
 }
 

@@ -99,8 +99,8 @@ fn make_condition_as(
             return make_element(b, i, 0x04, p, i, out, o);
         }
         Sort::Not => make_not(b, i, levels, out, o),
-        Sort::And => make_list(b, i, levels, 0xa1, count_at(b, p, i), out, o),
-        Sort::Or => make_list(b, i, levels, 0xa2, count_at(b, p, i), out, o),
+        Sort::And => make_list(b, i, levels, 0xa1, count_at(b, p, i, 0), out, o),
+        Sort::Or => make_list(b, i, levels, 0xa2, count_at(b, p, i, 0), out, o),
         Sort::Other => make_bytes(b, i, p, i, out, o),
     }
 }

@@ -1,5 +1,6 @@
 use borrow.Author.Needs.{needs}
 use native.Mathlib.Omega.{arith}
+use Rattle.links.proofs.ChainLaws.{blank}
 use Rattle.links.proofs.ServiceLaws.{book-start, book-few, list-yes, list-no}
 use Rattle.links.proofs.listing.list.Statement.{statement}
 use Rattle.links.proofs.listing.list.Tie as tie
@@ -10,7 +11,8 @@ list-spec =
     (λ c κs. search needs)  -- is-book-requires
     (λ c. search needs)  -- slice-aggregate-list-by
     (λ c. search needs)  -- slice-aggregate-list-by-2
-    (λ c κs. search (book-start, book-few, needs))  -- list-by-requires
+    (λ c. search needs)  -- slice-aggregate-list-by-3
+    (λ c κs. search (book-start, book-few, blank, needs))  -- list-by-requires
     (λ c. search needs)  -- same-length
     (λ c. search (list-yes, needs))  -- returns
     (λ c. list-no (c .before .is-book .ensures) (c .if1 .left) (λ i. omega (arith, c .before .before .before .shared-slice-known .given i))))  -- returns-2

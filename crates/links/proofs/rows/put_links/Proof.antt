@@ -6,10 +6,10 @@ use Rattle.links.proofs.rows.put_links.Statement.{statement}
 use Rattle.links.proofs.rows.put_links.Tie as tie
 
 abbrev Inv-loop : tie.InvT-loop
-Inv-loop b n entries places rows₀ i₀ q₀ k₀ rows i q k = Linking b n rows₀ rows i q k
+Inv-loop b n entries places chains rows₀ i₀ q₀ k₀ rows i q k = Linking b n rows₀ rows i q k
 
 abbrev μ-loop : tie.MeasureT-loop
-μ-loop b n entries places rows₀ i₀ q₀ k₀ rows i q k = n - k
+μ-loop b n entries places chains rows₀ i₀ q₀ k₀ rows i q k = n - k
 
 pub put-links-spec : {M : Type 1} → statement M
 put-links-spec =

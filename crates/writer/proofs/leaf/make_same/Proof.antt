@@ -11,9 +11,9 @@ make-same-spec =
     (λ c κs. search needs)  -- count-at-requires
     (λ c. search needs)  -- sub-if1
     (λ c. search (same-long, needs))  -- returns
-    (λ c. search needs)  -- add-first-byte
-    (λ c κs. search needs)  -- first-byte-requires
+    (λ c. search needs)  -- add-byte-at
+    (λ c κs. search needs)  -- byte-at-requires
     (λ c κs. search needs)  -- put-same-requires
     (λ c. search needs)  -- add-t8
     (λ c. search needs)  -- same-length
-    (λ c. same-took (c .before .before .before .before .before .before .before .record-end .ensures) (c .before .before .before .before .before .before .count-at .ensures) (c .before .before .before .before .before .if1 .left) (c .before .before .before .before .before .before .before .before .before .before .pre .1 .2) (c .before .before .before .first-byte .ensures) (c .before .before .put-same .ensures)))  -- returns-2
+    (λ c. same-took (c .before .before .before .before .before .before .before .record-end .ensures) (c .before .before .before .before .before .before .count-at .ensures) (c .before .before .before .before .before .if1 .left) (c .before .before .before .before .before .before .before .before .before .before .pre .1 .2) (c .before .before .before .byte-at .ensures) (c .before .before .put-same .ensures)))  -- returns-2

@@ -13,7 +13,7 @@ put-value-spec =
     (λ c κs. search needs)  -- number-at-requires-2
     (λ c κs. search needs)  -- put-flags-requires
     (λ c. search needs)  -- enum-told-3
-    (λ c κs. search needs)  -- first-byte-requires
+    (λ c κs. search needs)  -- byte-at-requires
     (λ c κs. search needs)  -- of-one-requires
     (λ c κs. search needs)  -- put-boolean-requires
     (λ c. search needs)  -- enum-told-4
