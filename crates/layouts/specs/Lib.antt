@@ -1,5 +1,4 @@
 pub mod Service
 pub mod GivingLaws
-pub mod Demand1
-pub mod RoundTrip
+pub mod Demands
 pub mod Accept

@@ -21,7 +21,7 @@ use Rattle.links.specs.declared.fields.Place.{Place}
 use Rattle.links.specs.declared.fields.Place.the-variants as place
 use Rattle.links.specs.Links.{none, links, linksFrom, listed, objectAt, fieldIn, fieldOf}
 use Rattle.links.specs.Finding.{Within, objectsAt, RowsPut}
-use Rattle.links.specs.Whole.{few-objects}
+use Rattle.links.specs.WholeLaws.{few-objects}
 use Rattle.links.specs.FindingLaws.{from-start}
 use Rattle.links.specs.Serving.{listing, ListTold, placeOf, placing, PlaceTold}
 

@@ -1,7 +1,8 @@
 pub mod Links
+pub mod AnswerLaws
+pub mod RisingLaws
+pub mod WholeLaws
 pub mod Demand3
-pub mod Whole
-pub mod Rising
 pub mod Finding
 pub mod FindingLaws
 pub mod Chains

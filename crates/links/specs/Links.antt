@@ -1,13 +1,15 @@
 -- "The links" of document 01, over the records of a book.
-use Prim.Native.Nat.{ℕ, zero, suc, _+_}
-use mathlib.Core.List.{List, [], _∷_, _++_, map}
-use mathlib.Core.Bool.{Bool, false, _&&_}
+use Prim.Native.Nat.{ℕ, zero, suc, _+_, _<_}
+use mathlib.Core.Path.{_≡_}
+use mathlib.Core.Logic.{_⊎_}
+use mathlib.Core.List.{List, [], _∷_, _++_, map, List·Memᴰ}
+use mathlib.Core.Bool.{Bool, true, false, _&&_}
 use lib.ListN.{length, getD}
 use lib.Dec.{leb, eqb}
 use Rattle.elements.specs.Choice.{pick, choose}
-use Rattle.rules.specs.Reading.{Rec}
+use Rattle.rules.specs.Reading.{Rec, rec}
 use Rattle.rules.specs.Files.{equal}
-use Rattle.rules.specs.Blocks.{closing}
+use Rattle.rules.specs.Blocks.{closing, ObjectAt}
 
 -- a record of an object, and its book offset
 pub record Held : Type 0 where
@@ -148,3 +150,45 @@ fieldIn k (chosen o) = firstOf k (o .records)
 -- "Kinds outside 0121 to 01FF and unknown kinds answer 16": an object's field
 unfoldable pub fieldOf : ℕ → ℕ → List Rec → Found
 fieldOf i k rs = choose (leb 0x0121 k && leb k 0x01ff) (λ _. fieldIn k (objectAt (objectsOf rs) i)) (λ _. none)
+
+-- What demand 3 says of the list, in these words:
+-- object i states the link at book offset p: a record of it there holds the identifier x
+pub record States (os : List Object) (link i p : ℕ) (x : List ℕ) : Type 0 where
+  pub object : Object
+  pub numbered : objectAt os i ≡ chosen object
+  pub kind : ℕ
+  pub holds : List·Memᴰ (held p kind x) (object .records)
+  pub says : states (object .entry) kind ≡ link
+  pub some : link ≡ 0 → ⊥
+
+-- object j is of the class that answers the link, and bears the identifier x in the right field
+pub record Bears (os : List Object) (link : ℕ) (x : List ℕ) (j : ℕ) : Type 0 where
+  pub object : Object
+  pub numbered : objectAt os j ≡ chosen object
+  pub class : answering link (object .entry) ≡ true
+  pub field : Held
+  pub first : firstOf (idKind (object .entry)) (object .records) ≡ found field
+  pub equal : field .pay ≡ x
+
+-- an answering object before another
+abbrev pub Lower : Reply → Reply → Type 0
+Lower (by j) (by k) = j < k
+Lower (by j) missing = ⊥
+Lower missing (by k) = ⊥
+Lower missing missing = ⊥
+
+-- "Rows go by stating offset, then answering object"
+abbrev pub Before : Row → Row → Type 0
+Before r q = (r .at < q .at) ⊎ ((r .at ≡ q .at) × Lower (r .reply) (q .reply))
+
+-- each row comes before all that follow it
+abbrev pub Rises : List Row → Type 0
+Rises [] = Unit {0}
+Rises (r ∷ rs) = ((q : Row) → List·Memᴰ q rs → Before r q) × Rises rs
+
+-- object j of the book is the one at this place of the dump, and each link that a record of it makes is stated, however deep the record's element stands
+pub record Stating (d : List ℕ) (os : List Object) (j place : ℕ) : Type 0 where
+  pub p : List ℕ
+  pub rs : List Rec
+  pub read : ObjectAt d place p rs
+  pub each : (kind : ℕ) (x : List ℕ) {link : ℕ} → List·Memᴰ (rec kind x) rs → states (getD p 0 0) kind ≡ link → (link ≡ 0 → ⊥) → (q : ℕ) × States os link j q x

@@ -1,4 +1,4 @@
--- Demand 3, "once, in the stated order": rows strictly rise.
+-- The rows of the list rise (demand 3).
 use Prim.Native.Nat.{ℕ, suc, _+_, _<_, _≤_}
 use mathlib.Core.Path.{_≡_, refl}
 use mathlib.Core.Logic.{_⊎_, inl, inr}
@@ -10,24 +10,8 @@ use lib.Dec.{eqb}
 use Rattle.elements.specs.Choice.{choose}
 use Rattle.rules.specs.Reading.{Rec}
 use Rattle.rules.specs.Blocks.{closing}
-use Rattle.links.specs.Links.{Held, held, Object, past, heldFrom, objectsFrom, objectsOf, states, bears, answers, Reply, by, missing, Row, row, rowsOf, stated, objectRows, linksFrom, links}
-use Rattle.links.specs.Demand3.{stated-are}
-
--- an answering object before another
-abbrev Lower : Reply → Reply → Type 0
-Lower (by j) (by k) = j < k
-Lower (by j) missing = ⊥
-Lower missing (by k) = ⊥
-Lower missing missing = ⊥
-
--- "Rows go by stating offset, then answering object"
-abbrev pub Before : Row → Row → Type 0
-Before r q = (r .at < q .at) ⊎ ((r .at ≡ q .at) × Lower (r .reply) (q .reply))
-
--- each row comes before all that follow it
-abbrev pub Rises : List Row → Type 0
-Rises [] = Unit {0}
-Rises (r ∷ rs) = ((q : Row) → List·Memᴰ q rs → Before r q) × Rises rs
+use Rattle.links.specs.Links.{Held, held, Object, past, heldFrom, objectsFrom, objectsOf, states, bears, answers, by, Row, row, rowsOf, stated, objectRows, linksFrom, links, Before, Rises}
+use Rattle.links.specs.AnswerLaws.{stated-are}
 
 rises-append : (a b : List Row) → Rises a → Rises b → ((r q : Row) → List·Memᴰ r a → List·Memᴰ q b → Before r q) → Rises (a ++ b)
 rises-append [] b f g h = g
@@ -163,7 +147,7 @@ module _ (os : List Object) where
       go true f g = rises-append (objectRows os k (o .entry) (o .records)) (linksFrom os (suc k) (objectsFrom (past at r) rs)) (object-rise k (o .entry) (past at r) rs) f (λ s q m n. inl (apart k (o .entry) (suc k) (past at r) rs s q m n))
       go false f g = g
 
--- "once, in the stated order"
-pub rising : (rs : List Rec) → Rises (links rs)
+-- all rows
+pub rows-rising : (rs : List Rec) → Rises (links rs)
 unfolding links
-rising rs = links-rise (objectsOf rs) 0 0 rs
+rows-rising rs = links-rise (objectsOf rs) 0 0 rs

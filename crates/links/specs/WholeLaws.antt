@@ -1,4 +1,4 @@
--- Demand 3, "each link the objects state .. nested access conditions among them": from the dump on.
+-- The objects of an accepted book are those of its dump, each whole (demand 3).
 use Prim.Native.Nat.{ℕ, zero, suc, _≤_, _<_}
 use mathlib.Core.Path.{_≡_, refl, ap}
 use mathlib.Core.List.{List, [], _∷_, _++_, List·Memᴰ, List·Memᴰ·head, List·Memᴰ·tail}
@@ -13,9 +13,8 @@ use Rattle.rules.specs.Files.{readDump, accepted}
 use Rattle.rules.specs.PartLaws.{is-true}
 use Rattle.rules.specs.Blocks.{closing, inner, ObjectAt, Blocks, none, other, whole, Blocked}
 use Rattle.rules.specs.BlockLaws.{blocked}
-use Rattle.links.specs.Links.{Held, held, Object, past, heldFrom, objectsFrom, objectsOf, states, chosen, objectAt}
-use Rattle.links.specs.Demand3.{States}
-use Rattle.links.specs.Rising.{not-closing}
+use Rattle.links.specs.Links.{Held, held, Object, past, heldFrom, objectsFrom, objectsOf, chosen, objectAt, Stating}
+use Rattle.links.specs.RisingLaws.{not-closing}
 
 -- these records, each with its book offset
 unfoldable pub heldAll : ℕ → List Rec → List Held
@@ -93,13 +92,6 @@ same-length (one-more o w) = ap suc (same-length w)
 pub few-objects : (d : List ℕ) (rs : List Rec) → readDump d ≡ accepted rs → length (objectsOf rs) ≤ 128
 few-objects d rs e = let w = whole-objects d rs e in omega (arith, w .1, same-length (w .2))
 
--- object j of the book is the one at this place of the dump, and each link that a record of it makes is stated, however deep the record's element stands
-pub record Stating (d : List ℕ) (os : List Object) (j place : ℕ) : Type 0 where
-  pub p : List ℕ
-  pub rs : List Rec
-  pub read : ObjectAt d place p rs
-  pub each : (kind : ℕ) (x : List ℕ) {link : ℕ} → List·Memᴰ (rec kind x) rs → states (getD p 0 0) kind ≡ link → (link ≡ 0 → ⊥) → (q : ℕ) × States os link j q x
-
 -- a record among these is held at some offset
 held-mem : (at kind : ℕ) (x : List ℕ) (rs : List Rec) → List·Memᴰ (rec kind x) rs → (q : ℕ) × List·Memᴰ (held q kind x) (heldAll at rs)
 unfolding heldAll
@@ -121,6 +113,6 @@ whole-at no-more j h = absurd (omega arith)
 whole-at (one-more {o = o} w ws) zero h = (o, refl, w)
 whole-at (one-more w ws) (suc j) h = whole-at ws j (omega arith)
 
--- "each link the objects state .. nested access conditions among them": what reading each object of the dump gives is stated
-pub each-stated : (d : List ℕ) (rs : List Rec) → readDump d ≡ accepted rs → (places : List ℕ) × (length (objectsOf rs) ≡ length places) × ((j : ℕ) → j < length places → Stating d (objectsOf rs) j (getD places j 0))
-each-stated d rs e = let w = whole-objects d rs e in (w .0, same-length (w .2), λ j h. let v = whole-at (w .2) j h in whole-states (v .1) (v .2))
+-- what reading each object of the dump gives is stated
+pub objects-state : (d : List ℕ) (rs : List Rec) → readDump d ≡ accepted rs → (places : List ℕ) × (length (objectsOf rs) ≡ length places) × ((j : ℕ) → j < length places → Stating d (objectsOf rs) j (getD places j 0))
+objects-state d rs e = let w = whole-objects d rs e in (w .0, same-length (w .2), λ j h. let v = whole-at (w .2) j h in whole-states (v .1) (v .2))
