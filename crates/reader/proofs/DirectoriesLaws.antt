@@ -1,13 +1,12 @@
 -- The files in turn.
-use Prim.Native.Nat.{ℕ, suc, _+_, _-_, _*_, _^_, _<_, _≤_}
+use Prim.Native.Nat.{ℕ, _+_, _-_, _*_, _^_, _<_, _≤_}
 use mathlib.Core.Path.{_≡_, refl, sym, ap, _∙_}
 use mathlib.Core.List.{List, [], _∷_, _++_, append-nil}
 use native.Mathlib.Omega.{arith}
-use lib.ListN.{length, getD, drop, take, set}
-use lib.Seq.{sets, take-set-le}
+use lib.ListN.{length, getD}
 use Rattle.elements.specs.declared.fault.Fault.{Fault}
 use Rattle.elements.specs.Put.{Put}
-use Rattle.elements.specs.PutLaws.{put-none, put-put, put-then, put-length}
+use Rattle.elements.specs.PutLaws.{put-none, put-put, put-then}
 use Rattle.reader.specs.declared.part.Many.{Many}
 use Rattle.reader.specs.declared.part.Many.the-variants as many
 use Rattle.reader.specs.declared.frame.Framed.the-variants as file
@@ -24,24 +23,9 @@ use Rattle.reader.specs.Directories.{didFiles, fellFiles, FilesTold}
 use Rattle.reader.proofs.DidLaws.{encode-append}
 use Rattle.reader.proofs.ComponentsLaws.{also-none, also-also}
 use Rattle.reader.proofs.EntryLaws.{objects-open, objects-small, objects-high, objects-few, objects-same, objects-kept}
-use Rattle.reader.proofs.LiesLaws.{lie-same}
+use Rattle.reader.proofs.LiesLaws.{lie-same, put-lies}
 use Rattle.reader.proofs.FrameLaws.{chain-more, chain-end, is-framed}
 use Rattle.reader.proofs.TwelveLaws.{chain-same}
-
--- what is put behind a place leaves what lies before it
-sets-behind : (xs l : List ℕ) (e o : ℕ) → e ≤ o → take e (sets l o xs) ≡ take e l
-sets-behind [] l e o h = refl
-sets-behind (x ∷ xs) l e o h = sets-behind xs (set l o x) e (suc o) (omega arith) ∙ take-set-le e l o x h
-
-pub put-lies : {a b : List ℕ} {o q i end : ℕ} {xs : List ℕ} {rs : List Rec} → Put a b o q xs → end ≤ o → Lies a i end rs → Lies b i end rs
-put-lies {a} {b} {o} {q} {i} {end} {xs} f h l = record {
-  low = l .low;
-  high = omega (arith, l .high, put-length f);
-  are = ap (drop i) (rw (f .to) (sets-behind xs a end o h)) ∙ l .are;
-  size = l .size;
-  small = l .small;
-  laid = l .laid;
-}
 
 counted-took : (w : Res) (g : ℕ → ℕ → Res) {bs : List Rec} {ms : List ℕ} {n : ℕ} → w ≡ took bs ms n → counted w g ≡ also bs ms (g (length ms) n)
 counted-took w g e = rw e refl

@@ -10,13 +10,13 @@ pub mod FillLaws
 pub mod ConditionLaws
 pub mod CommonLaws
 pub mod ObjectLaws
-pub mod EntryLaws
 pub mod LiesLaws
 pub mod ScanLaws
+pub mod NameLaws
+pub mod EntryLaws
 pub mod FrameLaws
 pub mod TwelveLaws
 pub mod DirectoriesLaws
 pub mod StageLaws
-pub mod PlaceLaws
 pub mod PathLaws
 pub mod KindLaws

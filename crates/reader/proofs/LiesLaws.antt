@@ -1,16 +1,19 @@
 -- Records that lie in bytes: the first of them, and that they are no others.
 use Prim.Native.Nat.{ℕ, suc, _+_, _<_, _≤_}
-use mathlib.Core.Path.{_≡_, refl, sym, _∙_}
+use mathlib.Core.Path.{_≡_, refl, sym, ap, _∙_}
 use mathlib.Core.List.{List, [], _∷_, _++_}
 use native.Mathlib.Omega.{arith}
-use lib.ListN.{length}
-use lib.Seq.{slice, slice-empty}
+use lib.ListN.{length, drop, take, set}
+use lib.Seq.{slice, slice-empty, sets, take-set-le}
 use lib.Dec.{ltb→lt}
 use Rattle.elements.specs.Lists.{cons, begins, ends}
+use Rattle.elements.specs.Put.{Put}
+use Rattle.elements.specs.PutLaws.{put-length, put-there}
 use Rattle.elements.specs.Record.{recordBytes}
 use Rattle.rules.specs.Reading.{Rec, rec}
 use Rattle.rules.specs.Files.{two}
 use Rattle.rules.specs.Book.{encode}
+use Rattle.rules.specs.Laws.{Laid}
 use Rattle.rules.specs.ValueLaws.{two-bytes}
 use Rattle.reader.specs.Scan.{Lies, Whole, behind}
 use Rattle.reader.proofs.DidLaws.{encode-one}
@@ -86,11 +89,14 @@ none-lie {b} {j} {end} {rs} l h = go rs l
     go (r ∷ rest) l = absurd (omega (arith, first l .within, first l .long))
 
 -- the record is whole
+pub first-whole : {b : List ℕ} {j end : ℕ} {r : Rec} {rest : List Rec} → First b j end r rest → Whole b j
+first-whole f = record { least = omega (arith, f .long); fits = omega (arith, f .within, f .after .high) }
+
 pub whole : {b : List ℕ} {j end : ℕ} {rs : List Rec} → Lies b j end rs → j < end → Whole b j
 whole {b} {j} {end} l h = go (some-lie l h)
   where
     go : {rs : List Rec} → Some b j end rs → Whole b j
-    go (some f) = record { least = omega (arith, f .long); fits = omega (arith, f .within, f .after .high) }
+    go (some f) = first-whole f
 
 -- no others lie there
 same-there : {b : List ℕ} {j end : ℕ} (rs ws : List Rec) → Lies b j end rs → Lies b j end ws → rs ≡ ws
@@ -106,3 +112,22 @@ same-there {b} {j} {end} (r ∷ rs) (w ∷ ws) l k =
 
 pub lie-same : {b : List ℕ} {j end : ℕ} {rs ws : List Rec} → Lies b j end rs → Lies b j end ws → rs ≡ ws
 lie-same {rs = rs} {ws = ws} l k = same-there rs ws l k
+
+-- what is put behind a place leaves what lies before it
+sets-behind : (xs l : List ℕ) (e o : ℕ) → e ≤ o → take e (sets l o xs) ≡ take e l
+sets-behind [] l e o h = refl
+sets-behind (x ∷ xs) l e o h = sets-behind xs (set l o x) e (suc o) (omega arith) ∙ take-set-le e l o x h
+
+pub put-lies : {a b : List ℕ} {o q i end : ℕ} {xs : List ℕ} {rs : List Rec} → Put a b o q xs → end ≤ o → Lies a i end rs → Lies b i end rs
+put-lies {a} {b} {o} {q} {i} {end} {xs} f h l = record {
+  low = l .low;
+  high = omega (arith, l .high, put-length f);
+  are = ap (drop i) (rw (f .to) (sets-behind xs a end o h)) ∙ l .are;
+  size = l .size;
+  small = l .small;
+  laid = l .laid;
+}
+
+-- records that were put where there is room lie there
+pub put-lie : (s : List ℕ) {a b : List ℕ} {i end : ℕ} {cs : List Rec} → Put a b i end (encode cs) → end ≤ length a → length s ≤ 32768 → Laid (length s) cs → Lies b i end cs
+put-lie s f h m l = record { low = omega (arith, f .at); high = omega (arith, put-length f); are = put-there f h; size = length s; small = m; laid = l }

@@ -1,5 +1,5 @@
 -- How the code goes over records: what a loop has passed, and what is left.
-use Prim.Native.Nat.{ℕ, suc, _+_, _<_, _≤_}
+use Prim.Native.Nat.{ℕ, _+_, _<_, _≤_}
 use mathlib.Core.Path.{_≡_, refl, sym, ap, _∙_}
 use mathlib.Core.List.{List, [], _∷_, _++_, map, map-append, append-assoc, append-nil}
 use mathlib.Core.Bool.{Bool, true, false, _&&_, _||_}
@@ -13,18 +13,17 @@ use Rattle.elements.specs.Choice.{pick, choose}
 use Rattle.elements.specs.ChoiceLaws.{by-choose, both-true}
 use Rattle.elements.specs.Lists.{cons, begins, join}
 use Rattle.elements.specs.declared.fault.Fault.the-variants.{AuthIdTwice}
-use Rattle.reader.specs.declared.scan.Again.the-variants.{Before, Never}
 use Rattle.reader.specs.declared.scan.Clash.{Clash}
 use Rattle.reader.specs.declared.scan.Clash.the-variants.{At, None}
 use Rattle.reader.specs.declared.scan.Key.{Key}
 use Rattle.reader.specs.declared.scan.Key.the-variants.{Path, Own}
 use Rattle.rules.specs.Reading.{Rec}
 use Rattle.rules.specs.Tables.{ownIdRow}
-use Rattle.rules.specs.Files.{Name, nameOf, namesOf, paths, equal, met, firstAgain, two, wrongAt, repeated}
+use Rattle.rules.specs.Files.{Name, nameOf, namesOf, paths, equal, met, two, wrongAt, repeated}
 use Rattle.rules.specs.Book.{encode}
 use Rattle.rules.specs.Laws.{Laid}
 use Rattle.rules.specs.CheckLaws.{ownIds}
-use Rattle.reader.specs.Scan.{Lies, Holds, PathsTold, clashOf, IdsTold, NextName, last, found, NameTold, Whole, behind, bears, skip, keyAt, keysOf, Spans, MetTold, RepeatTold, counts, placedKeys, Places, Index, Indexed, Noted}
+use Rattle.reader.specs.Scan.{Lies, Holds, AgainTold, clashOf, IdsTold, NextName, last, found, NameTold, Whole, behind, bears, skip, keyAt, keysOf, Spans, MetTold, RepeatTold, placedKeys, Places, Index, Indexed, Noted}
 use Rattle.reader.proofs.DidLaws.{encode-append}
 use Rattle.reader.proofs.LiesLaws.{First, Some, some, some-lie, none-lie, lie-same}
 
@@ -51,7 +50,7 @@ pub bears-path : (b : List ℕ) (j : ℕ) {x : Key} {r : Bool} → x ≡ Path �
 bears-path b j e h = rw e h
 
 -- the name that the record at j gives
-abbrev nameAt : List ℕ → ℕ → Name
+abbrev pub nameAt : List ℕ → ℕ → Name
 nameAt b j = record { tag = getD b (j + 4) 0; path = slice (j + 6) (behind b j) b }
 
 module _ {b : List ℕ} {j end : ℕ} {r : Rec} {rest : List Rec} (f : First b j end r rest) where
@@ -117,14 +116,6 @@ module _ {b : List ℕ} {i end j : ℕ} (w : Unnamed b i end j) where
 -- the k-th of too few
 pub mark-none : (l : List ℕ) (k : ℕ) → length l ≤ k → 0 ≡ getD l k 0
 mark-none l k h = sym (List·getD-eq-default l 0 h)
-
--- what `counted` answers
-module _ (b : List ℕ) (j m : ℕ) {t : Bool} (e : t ≡ bears b Path j) where
-  pub counts-more : t ≡ true → m + 1 ≡ counts b j m
-  counts-more q = rw (sym e ∙ q) refl
-
-  pub counts-same : t ≡ false → m ≡ counts b j m
-  counts-same q = rw (sym e ∙ q) refl
 
 -- the key of a record that bears one
 module _ (b : List ℕ) (x : Key) (j : ℕ) {t : Bool} (e : t ≡ bears b x j) where
@@ -203,13 +194,25 @@ module _ {b : List ℕ} {x : Key} {i j : ℕ} {t : Bool} (e : t ≡ bears b x j)
   pub repeat-none : t ≡ false → RepeatTold b x i j false
   repeat-none u = record { is = λ rs z. rw (sym e ∙ u) refl }
 
+-- what `first_again` answers
+module _ {b : List ℕ} {i j place again : ℕ} where
+  pub again-kept : (again ≡ 0 → ⊥) → AgainTold b i j place again again
+  again-kept h = record { is = λ rs l. rw (ne-eqb again 0 h) refl }
+
+  module _ (h : again ≡ 0) {t : Bool} (w : RepeatTold b Path i j t) where
+    pub again-here : t ≡ true → AgainTold b i j place again place
+    again-here q = record { is = λ rs l. rw (eq-eqb again 0 h, sym (w .is rs l) ∙ q) refl }
+
+    pub again-none : t ≡ false → AgainTold b i j place again 0
+    again-none q = record { is = λ rs l. rw (eq-eqb again 0 h, sym (w .is rs l) ∙ q) refl }
+
 -- the keys of records one behind the other
 name-append : (p : List ℕ) (ns ms : List Name) → nameOf p (ns ++ ms) ≡ nameOf p ns ++ ms
 name-append [] ns ms = refl
 name-append (t ∷ []) ns ms = refl
 name-append (t ∷ f ∷ p) ns ms = by-choose (λ (l : List Name). choose (eqb f 0) (λ _. record { tag = t; path = p } ∷ (ns ++ ms)) (λ _. ns ++ ms) ≡ l ++ ms) (eqb f 0) (λ _ e. rw e refl) (λ _ e. rw e refl)
 
-names-append : (rs ws : List Rec) → namesOf (rs ++ ws) ≡ namesOf rs ++ namesOf ws
+pub names-append : (rs ws : List Rec) → namesOf (rs ++ ws) ≡ namesOf rs ++ namesOf ws
 unfolding namesOf
 names-append [] ws = refl
 names-append (r ∷ rs) ws = rw (names-append rs ws) (go (eqb (r .kind) 0x0110))
@@ -227,7 +230,7 @@ ids-append (r ∷ rs) ws = rw (ids-append rs ws) (go (eqb (r .kind) (ownIdRow .k
     go true = refl
     go false = refl
 
-keys-append : (x : Key) (rs ws : List Rec) → keysOf x (rs ++ ws) ≡ keysOf x rs ++ keysOf x ws
+pub keys-append : (x : Key) (rs ws : List Rec) → keysOf x (rs ++ ws) ≡ keysOf x rs ++ keysOf x ws
 keys-append Path rs ws = ap paths (names-append rs ws) ∙ map-append (λ (n : Name). n .path) (namesOf rs) (namesOf ws)
 keys-append Own rs ws = ids-append rs ws
 
@@ -271,9 +274,6 @@ module _ {b : List ℕ} {x : Key} {i end j : ℕ} {all left : List Rec} {before 
     laid = laid-left (g .lies .size) (g .done) left (rw (g .are) at (g .lies .laid));
   }
 
-  pub gone-holds : Holds b i j
-  gone-holds = record { rs = g .done; lies = gone-lies }
-
   -- what `repeats` answered, of what was met before
   gone-told : {t : Bool} → RepeatTold b x i j t → t ≡ (bears b x j && met (keyAt b x j) before)
   gone-told w = rw (g .known (keyAt b x j)) (w .is (g .done) gone-lies)
@@ -293,74 +293,6 @@ gone-next {b} {x} {i} {end} {j} {all} {rest} {r} {before} g f = record {
     go : (y : List ℕ) (t : Bool) → met y (choose t (λ _. keyAt b x j ∷ before) (λ _. before)) ≡ met y (keysOf x (g .done) ++ choose t (λ _. keyAt b x j ∷ []) (λ _. []))
     go y true = rw (met-last y (keyAt b x j) (keysOf x (g .done)), g .known y) refl
     go y false = rw append-nil (g .known y)
-
--- the loop of `path_twice`: m path entries were passed, none of which names a path once more
-pub record Passed (b : List ℕ) (i end j m : ℕ) : Type 0 where
-  pub few : m ≤ j
-  pub all : List Rec
-  pub left : List Rec
-  pub before : List (List ℕ)
-  pub gone : Gone b Path i end j all left before
-  pub again : firstAgain [] (keysOf Path all) ≡ m + firstAgain before (keysOf Path left)
-  pub count : length (keysOf Path all) ≡ m + length (keysOf Path left)
-
-pub passed-none : {b : List ℕ} {i end : ℕ} → Holds b i end → Passed b i end i 0
-passed-none h = record { few = omega arith; all = h .rs; left = h .rs; before = []; gone = gone-none Path (h .lies); again = omega arith; count = omega arith }
-
-module _ {b : List ℕ} {i end j m : ℕ} (w : Passed b i end j m) where
-  pub passed-all : end ≤ j → PathsTold b i end Never
-  unfolding namesOf firstAgain
-  passed-all h =
-      let e : w .left ≡ [] = none-lie (w .gone .after) h in
-      let a : firstAgain [] (keysOf Path (w .all)) ≡ m + 0 = rw e at (w .again) in
-      let c : length (keysOf Path (w .all)) ≡ m + 0 = rw e at (w .count) in
-      record {
-        twice = λ rs n l q. let z : _≡_ {A = ℕ} 0 1 = cc in absurd (omega arith);
-        never = λ rs l q. rw (lie-same l (w .gone .lies)) (a ∙ sym c);
-      }
-
-  module _ (h : j < end) {t : Bool} (e : RepeatTold b Path i j t) where
-    pub passed-met : t ≡ true → PathsTold b i end (Before m)
-    unfolding firstAgain
-    passed-met q = go (some-lie (w .gone .after) h) (w .again) (w .count) (both-true (bears b Path j) (met (keyAt b Path j) (w .before)) (sym (gone-told (w .gone) e) ∙ q))
-      where
-        go : {rs : List Rec} → Some b j end rs → firstAgain [] (keysOf Path (w .all)) ≡ m + firstAgain (w .before) (keysOf Path rs) → length (keysOf Path (w .all)) ≡ m + length (keysOf Path rs) →
-            (bears b Path j ≡ true) × (met (keyAt b Path j) (w .before) ≡ true) → PathsTold b i end (Before m)
-        go (some {rest = rest} f) a c (u, v) =
-            let x : firstAgain [] (keysOf Path (w .all)) ≡ m + 0 = rw (keys-first f Path rest, u, v) at a in
-            let y : length (keysOf Path (w .all)) ≡ m + suc (length (keysOf Path rest)) = rw (keys-first f Path rest, u) at c in
-            record {
-              twice = λ rs n l q. let z : m ≡ n = cc in rw (lie-same l (w .gone .lies)) (omega arith, omega arith);
-              never = λ rs l q. let z : _≡_ {A = ℕ} 0 1 = cc in absurd (omega arith);
-            }
-
-    pub passed-next : {k n : ℕ} → t ≡ false → k ≡ counts b j m → n ≡ behind b j → Passed b i end n k
-    unfolding firstAgain
-    passed-next {k} {n} q c d = go (some-lie (w .gone .after) h) (w .gone) (w .again) (w .count)
-      where
-        go : {rs : List Rec} → Some b j end rs → Gone b Path i end j (w .all) rs (w .before) → firstAgain [] (keysOf Path (w .all)) ≡ m + firstAgain (w .before) (keysOf Path rs) →
-            length (keysOf Path (w .all)) ≡ m + length (keysOf Path rs) → Passed b i end n k
-        go (some {rest = rest} f) g a l = by-bears (bears b Path j) refl (rw (keys-first f Path rest) at a) (rw (keys-first f Path rest) at l) (gone-next g f)
-          where
-            by-bears : (u : Bool) → bears b Path j ≡ u → firstAgain [] (keysOf Path (w .all)) ≡ m + firstAgain (w .before) (choose u (λ _. keyAt b Path j ∷ keysOf Path rest) (λ _. keysOf Path rest)) →
-                length (keysOf Path (w .all)) ≡ m + length (choose u (λ _. keyAt b Path j ∷ keysOf Path rest) (λ _. keysOf Path rest)) →
-                Gone b Path i end (behind b j) (w .all) rest (choose u (λ _. keyAt b Path j ∷ w .before) (λ _. w .before)) → Passed b i end n k
-            by-bears true u a l g =
-                let v : met (keyAt b Path j) (w .before) ≡ false = rw u at (sym (gone-told (w .gone) e) ∙ q) in
-                let x : firstAgain [] (keysOf Path (w .all)) ≡ m + suc (firstAgain (keyAt b Path j ∷ w .before) (keysOf Path rest)) = rw v at a in
-                let y : k ≡ m + 1 = rw u at c in
-                record {
-                  few = omega (arith, w .few);
-                  all = w .all;
-                  left = rest;
-                  before = keyAt b Path j ∷ w .before;
-                  gone = rw d g;
-                  again = omega arith;
-                  count = omega arith;
-                }
-            by-bears false u a l g =
-                let y : k ≡ m = rw u at c in
-                record { few = omega (arith, w .few); all = w .all; left = rest; before = w .before; gone = rw d g; again = rw y a; count = rw y l }
 
 -- the loop of `id_twice_by`: k objects were passed, the last of them at `place`, and no own authId was repeated
 pub record Apart (b marks : List ℕ) (i end j k place : ℕ) : Type 0 where

@@ -15,8 +15,8 @@ use Rattle.reader.specs.declared.part.Part.{Part}
 use Rattle.reader.specs.declared.part.Part.the-variants.{Took, Fails}
 use Rattle.reader.specs.declared.part.Many.{Many}
 use Rattle.reader.specs.declared.part.Many.the-variants as many
-use Rattle.reader.specs.declared.scan.Again.{Again}
-use Rattle.reader.specs.declared.scan.Again.the-variants.{Before, Never}
+use Rattle.reader.specs.declared.part.Entries.{Entries}
+use Rattle.reader.specs.declared.part.Entries.the-variants as list
 use Rattle.reader.specs.declared.scan.Clash.{Clash}
 use Rattle.reader.specs.declared.scan.Clash.the-variants.{At, None}
 use Rattle.reader.specs.declared.twelve.Followed.{Followed}
@@ -28,21 +28,21 @@ use Rattle.reader.specs.declared.frame.Chain.the-variants.{Sound, Unsoun
 use Rattle.rules.specs.declared.outcome.Outcome.{Outcome}
 use Rattle.rules.specs.declared.outcome.Outcome.the-variants.{Accepted, Refused}
 use Rattle.rules.specs.Reading.{Rec, Res, took}
-use Rattle.rules.specs.Files.{File, files, frames, namesOf, paths, entryPlace, follow, directories, repeated, cia, od, accepted, refused, Answer, onRes, onCheck, frame, readFiles, readParts, readDump}
+use Rattle.rules.specs.Files.{File, files, frames, namesOf, paths, firstAgain, follow, directories, repeated, cia, od, accepted, refused, Answer, onRes, onCheck, frame, readFiles, readParts, readDump}
 use Rattle.rules.specs.Book.{encode}
 use Rattle.rules.specs.Laws.{Laid, size, laid-append}
 use Rattle.rules.specs.FileLaws.{cia-law, od-law}
 use Rattle.rules.specs.DumpLaws.{files-bound, ok-facts}
 use Rattle.rules.specs.WriteLaws.{book-size}
-use Rattle.reader.specs.Did.{Did, did, fell, DidObjects, fellObjects}
-use Rattle.reader.specs.Scan.{Lies, Holds, PathsTold, IdsTold, clashOf}
+use Rattle.reader.specs.Did.{Did, did, fell, DidObjects, fellObjects, objectsOf, DidEntries, PathsTold}
+use Rattle.reader.specs.Scan.{Lies, Holds, IdsTold, clashOf}
 use Rattle.reader.specs.Frame.{framedAs, Inner, FramesTold}
 use Rattle.reader.specs.Twelve.{FollowTold, followedAs}
 use Rattle.reader.specs.Directories.{DidFiles, didFiles, fellFiles, FilesTold}
 use Rattle.reader.specs.Stages.{Reads, reads, falls, Framing, Opening, Opened, FilesRead, EntriesRead, PartsRead}
 use Rattle.reader.proofs.DidLaws.{encode-append, did-same}
 use Rattle.reader.proofs.EntryLaws.{objects-open, objects-few, objects-same}
-use Rattle.reader.proofs.DirectoriesLaws.{put-lies}
+use Rattle.reader.proofs.LiesLaws.{put-lies, put-lie}
 
 -- records laid out behind others
 lies-behind : (s : List ℕ) {a b : List ℕ} {i end n : ℕ} (cs ds : List Rec) → Lies a i end cs → Put a b end n (encode ds) → n ≤ length a → length s ≤ 32768 → Laid (length s) cs → Laid (length s) ds → Lies b i n (cs ++ ds)
@@ -57,7 +57,7 @@ lies-behind s {a} {b} {i} {end} {n} cs ds l f h m u v =
       laid = laid-append (length s) cs ds u v;
     }
 
-module _ {s a : List ℕ} {start stop i end : ℕ} {u : List ℕ} {k : ℕ} (op : Opened s start stop a i end u k) where
+module _ {s a : List ℕ} {stop i end : ℕ} {u : List ℕ} {k : ℕ} (op : Opened s stop a i end u k) where
   -- what the files left
   module _ {b v : List ℕ} {x : Many} (d : FilesTold s stop a b u v i end end k x) {q n j : ℕ} (y : x ≡ many.Took q n j) where
     pub record FilesOpen (fs : List File) (cs : List Rec) : Type 0 where
@@ -78,36 +78,36 @@ module _ {s a : List ℕ} {start stop i end : ℕ} {u : List ℕ} {k : ℕ} (op 
     files-marks = let f = files-open (op .frame .fs) (op .cs) (op .frame .chain) (op .is .lies) in omega (arith, f .few, op .is .many, put-length (f .marks))
 
   -- 12: a path is named twice
-  pub files-twice : {r : Again} {m x : ℕ} → PathsTold a i end r → r ≡ Before m → x ≡ entryPlace s (length s) m stop start → FilesRead s start stop a a i end u k (Refused PathTwice x)
+  pub files-twice : {again : ℕ} → (again ≡ 0 → ⊥) → FilesRead s stop a a i end u k again (Refused PathTwice again)
   unfolding readFiles
-  files-twice {r} {m} {x} t e q = record {
-    is = λ o fs bs cs ms y z c w.
-        let v = t .twice cs m (w .lies) e in
-        rw (v .0, lt-ltb m (length (paths (namesOf cs))) (v .1), y, z, q) (falls refl);
+  files-twice h = record {
+    is = λ o fs bs cs ms z c w t.
+        let v = t .twice (omega arith) in
+        rw (lt-ltb (firstAgain [] (paths (namesOf cs))) (length (paths (namesOf cs))) (v .0), z, ← v .1) (falls refl);
   }
 
   -- no path is
-  module _ {r : Again} (t : PathsTold a i end r) (e : r ≡ Never) where
-    never : (o : File) (fs : List File) (bs cs : List Rec) (ms : List ℕ) → Opening s stop a i end u k cs ms →
+  module _ {again : ℕ} (e : again ≡ 0) where
+    never : (o : File) (fs : List File) (bs cs : List Rec) (ms : List ℕ) → PathsTold s stop (o .start) (paths (namesOf cs)) again →
         readFiles s o fs bs cs ms ≡ onCheck (follow s (namesOf cs) fs) (λ _. onRes (directories s (namesOf cs) fs (length ms)) (λ ds ns. onCheck (repeated [] 0 (ms ++ ns) (cs ++ ds)) (λ _. accepted (bs ++ (cs ++ ds)))))
     unfolding readFiles
-    never o fs bs cs ms w = rw (t .never cs (w .lies) e, le-ltb (length (paths (namesOf cs))) (length (paths (namesOf cs))) (omega arith)) refl
+    never o fs bs cs ms t = rw (t .never e, le-ltb (length (paths (namesOf cs))) (length (paths (namesOf cs))) (omega arith)) refl
 
     -- but the files do not follow
-    pub files-wrong : {w : Followed} {f : Fault} {p : ℕ} → FollowTold s stop a i end w → w ≡ Wrong f p → FilesRead s start stop a a i end u k (Refused f p)
-    files-wrong {w} {f} {p} g z = record { is = λ o fs bs cs ms _ _ c l. rw (never o fs bs cs ms l, g .is cs fs (length s) (l .lies) c, z) (falls refl) }
+    pub files-wrong : {w : Followed} {f : Fault} {p : ℕ} → FollowTold s stop a i end w → w ≡ Wrong f p → FilesRead s stop a a i end u k again (Refused f p)
+    files-wrong {w} {f} {p} g z = record { is = λ o fs bs cs ms _ c l t. rw (never o fs bs cs ms t, g .is cs fs (length s) (l .lies) c, z) (falls refl) }
 
     module _ {w : Followed} (g : FollowTold s stop a i end w) (z : w ≡ Fine) where
-      fine-so : (o : File) (fs : List File) (bs cs : List Rec) (ms : List ℕ) → frames s (length s) stop ≡ files fs → Opening s stop a i end u k cs ms →
+      fine-so : (o : File) (fs : List File) (bs cs : List Rec) (ms : List ℕ) → frames s (length s) stop ≡ files fs → Opening s stop a i end u k cs ms → PathsTold s stop (o .start) (paths (namesOf cs)) again →
           readFiles s o fs bs cs ms ≡ onRes (directories s (namesOf cs) fs k) (λ ds ns. onCheck (repeated [] 0 (ms ++ ns) (cs ++ ds)) (λ _. accepted (bs ++ (cs ++ ds))))
-      fine-so o fs bs cs ms c l =
+      fine-so o fs bs cs ms c l t =
           let m : length ms ≡ k = rw (← l .marks) (length-take-le k u (omega (arith, l .few, l .many))) in
-          rw (never o fs bs cs ms l, g .is cs fs (length s) (l .lies) c, z, m) refl
+          rw (never o fs bs cs ms t, g .is cs fs (length s) (l .lies) c, z, m) refl
 
       module _ {b v : List ℕ} {x : Many} (d : FilesTold s stop a b u v i end end k x) where
         -- a file is refused
-        pub files-fell : {f : Fault} {p : ℕ} → x ≡ many.Fails f p → FilesRead s start stop a b i end u k (Refused f p)
-        files-fell {f} {p} y = record { is = λ o fs bs cs ms _ _ c l. rw (fine-so o fs bs cs ms c l) (go (λ ds ns. onCheck (repeated [] 0 (ms ++ ns) (cs ++ ds)) (λ _. accepted (bs ++ (cs ++ ds)))) (rw y at (d .is cs fs (length s) (l .lies) c))) }
+        pub files-fell : {f : Fault} {p : ℕ} → x ≡ many.Fails f p → FilesRead s stop a b i end u k again (Refused f p)
+        files-fell {f} {p} y = record { is = λ o fs bs cs ms _ c l t. rw (fine-so o fs bs cs ms c l t) (go (λ ds ns. onCheck (repeated [] 0 (ms ++ ns) (cs ++ ds)) (λ _. accepted (bs ++ (cs ++ ds)))) (rw y at (d .is cs fs (length s) (l .lies) c))) }
           where
             go : {old : List Rec} {t : Res} (h : List Rec → List ℕ → Answer) → DidFiles a b u v end k t (many.Fails f p) → Reads old a b end (onRes t h) (Refused f p)
             go h (fellFiles q _) = falls q
@@ -128,17 +128,17 @@ module _ {s a : List ℕ} {start stop i end : ℕ} {u : List ℕ} {k : ℕ} (op 
           files-hold = let f = files-open d y (op .frame .fs) (op .cs) (op .frame .chain) (op .is .lies) in record { rs = op .cs ++ f .ds; lies = lie (op .frame .chain) (op .is) f }
 
           module _ {p : Clash} (t′ : IdsTold b (take j v) i n p) where
-            checked : (o : File) (fs : List File) (bs cs : List Rec) (ms : List ℕ) (c : frames s (length s) stop ≡ files fs) (l : Opening s stop a i end u k cs ms) (f : FilesOpen d y fs cs) →
+            checked : (o : File) (fs : List File) (bs cs : List Rec) (ms : List ℕ) (c : frames s (length s) stop ≡ files fs) (l : Opening s stop a i end u k cs ms) (t : PathsTold s stop (o .start) (paths (namesOf cs)) again) (f : FilesOpen d y fs cs) →
                 readFiles s o fs bs cs ms ≡ onCheck (clashOf p) (λ _. accepted (bs ++ (cs ++ f .ds)))
-            checked o fs bs cs ms c l f =
+            checked o fs bs cs ms c l t f =
                 let m : take j v ≡ ms ++ f .ns = put-upto (f .marks) (omega (arith, f .few, l .many)) ∙ ap (λ (x : List ℕ). x ++ f .ns) (l .marks) in
-                rw (fine-so o fs bs cs ms c l, f .are, ← m, t′ .is (cs ++ f .ds) (lie c l f)) refl
+                rw (fine-so o fs bs cs ms c l t, f .are, ← m, t′ .is (cs ++ f .ds) (lie c l f)) refl
 
-            pub files-clash : {x′ : ℕ} → p ≡ At x′ → FilesRead s start stop a b i end u k (Refused AuthIdTwice x′)
-            files-clash e′ = record { is = λ o fs bs cs ms _ _ c l. let f = files-open d y fs cs c (l .lies) in rw (checked o fs bs cs ms c l f, e′) (falls (put-length (f .put))) }
+            pub files-clash : {x′ : ℕ} → p ≡ At x′ → FilesRead s stop a b i end u k again (Refused AuthIdTwice x′)
+            files-clash e′ = record { is = λ o fs bs cs ms _ c l t. let f = files-open d y fs cs c (l .lies) in rw (checked o fs bs cs ms c l t f, e′) (falls (put-length (f .put))) }
 
-            pub files-all : p ≡ None → FilesRead s start stop a b i end u k (Accepted n)
-            files-all e′ = record { is = λ o fs bs cs ms _ _ c l. let f = files-open d y fs cs c (l .lies) in rw (checked o fs bs cs ms c l f, e′, sym (append-assoc bs cs (f .ds))) (reads (f .ds) (f .put) (fits c l f)) }
+            pub files-all : p ≡ None → FilesRead s stop a b i end u k again (Accepted n)
+            files-all e′ = record { is = λ o fs bs cs ms _ c l t. let f = files-open d y fs cs c (l .lies) in rw (checked o fs bs cs ms c l t f, e′, sym (append-assoc bs cs (f .ds))) (reads (f .ds) (f .put) (fits c l f)) }
 
 -- what is read behind what was read
 reads-then : (bs cs : List Rec) {a b c : List ℕ} {o p : ℕ} {g : Answer} {r : Outcome} → Put a b o p (encode cs) → Reads (bs ++ cs) b c p g r → Reads bs a c o g r
@@ -146,14 +146,14 @@ reads-then bs cs f (reads ds p l) = rw (append-assoc bs cs ds) (reads (cs ++ ds)
 reads-then bs cs f (falls e) = falls (e ∙ put-length f)
 
 -- what the lent marks hold once EF.OD is read
-module _ {s a b u v : List ℕ} {start stop i : ℕ} (h : Framing s start stop a) (bytes : Bytes s) (room : i + 3 ≤ 4 * start) (wide : 128 ≤ length u) {w : Many} (d : DidObjects a b u v i start stop 0 (od s stop start) w) where
-  pub entries-fell : {f : Fault} {p : ℕ} → w ≡ many.Fails f p → EntriesRead s start stop a b i (Refused f p)
-  entries-fell {f} {p} z = record { is = λ o fs bs _ _ _. go (λ cs ms. readFiles s o fs bs cs ms) (rw z at d) }
+module _ {s a b u v : List ℕ} {start stop i : ℕ} (h : Framing s start stop a) (bytes : Bytes s) (room : i + 3 ≤ 4 * start) (wide : 128 ≤ length u) {w : Entries} (d : DidEntries s a b u v i start stop (od s stop start) w) where
+  pub entries-refused : {f : Fault} {p : ℕ} → w ≡ list.Fails f p → EntriesRead s start stop a b i (Refused f p)
+  entries-refused {f} {p} z = record { is = λ o fs bs _ _ _. go (λ cs ms. readFiles s o fs bs cs ms) (rw z at (d .objects)) }
     where
       go : {old : List Rec} {t : Res} (k : List Rec → List ℕ → Answer) → DidObjects a b u v i start stop 0 t (many.Fails f p) → Reads old a b i (onRes t k) (Refused f p)
       go k (fellObjects e _) = falls e
 
-  module _ {n end k : ℕ} (z : w ≡ many.Took n end k) where
+  module _ {n end k again : ℕ} (z : w ≡ list.Took n end k again) where
     -- what was read
     record EntriesOpen : Type 0 where
       cs : List Rec
@@ -164,25 +164,18 @@ module _ {s a b u v : List ℕ} {start stop i : ℕ} (h : Framing s start stop a
 
     entries-open : EntriesOpen
     entries-open =
-        let x = objects-open (rw z at d) in
+        let x = objects-open (rw z at (d .objects)) in
         let f = ok-facts (od-law s bytes (h .small) stop start (h .low) (h .high)) (x .2) in
         let r : end ≤ 4 * stop = omega (arith, x .3 .at, book-size (x .0), f .bound, f .low, f .high) in
         let t : end ≤ length a = omega (arith, h .high, h .small, h .wide) in
-        let e : k ≤ 128 = objects-few d z in
+        let e : k ≤ 128 = objects-few (d .objects) (ap objectsOf z) in
         record {
           cs = x .0;
           ms = x .1;
           are = x .2;
           put = x .3;
           opening = record {
-            lies = record {
-              low = omega (arith, x .3 .at);
-              high = omega (arith, put-length (x .3));
-              are = put-there (x .3) t;
-              size = length s;
-              small = h .small;
-              laid = f .laid;
-            };
+            lies = put-lie s (x .3) t (h .small) (f .laid);
             laid = f .laid;
             room = r;
             marks = put-upto (x .4) (omega arith);
@@ -192,16 +185,16 @@ module _ {s a b u v : List ℕ} {start stop i : ℕ} (h : Framing s start stop a
         }
 
     framing-kept : Framing s start stop b
-    framing-kept = record { low = h .low; high = h .high; small = h .small; wide = omega (arith, h .wide, objects-same d); fs = h .fs; chain = h .chain }
+    framing-kept = record { low = h .low; high = h .high; small = h .small; wide = omega (arith, h .wide, objects-same (d .objects)); fs = h .fs; chain = h .chain }
 
-    pub entries-opened : Opened s start stop b i end v k
-    entries-opened = let x = entries-open in record { frame = framing-kept; cs = x .cs; ms = x .ms; is = x .opening }
+    pub entries-opened : Opened s stop b i end v k
+    entries-opened = let x = entries-open in record { start = start; frame = framing-kept; cs = x .cs; ms = x .ms; is = x .opening }
 
-    pub entries-read : {c : List ℕ} {r : Outcome} → FilesRead s start stop b c i end v k r → EntriesRead s start stop a c i r
+    pub entries-read : {c : List ℕ} {r : Outcome} → FilesRead s stop b c i end v k again r → EntriesRead s start stop a c i r
     entries-read {c} {r} t = record {
       is = λ o fs bs y q e.
           let x = entries-open in
-          rw (x .are) (reads-then bs (x .cs) (x .put) (t .is o fs bs (x .cs) (x .ms) y q e (x .opening)));
+          rw (x .are) (reads-then bs (x .cs) (x .put) (t .is o fs bs (x .cs) (x .ms) q e (x .opening) (rw y (d .told (x .are) z))));
     }
 
 -- CIAInfo is read

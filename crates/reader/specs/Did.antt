@@ -15,6 +15,8 @@ use Rattle.reader.specs.declared.part.Part.{Part}
 use Rattle.reader.specs.declared.part.Part.the-variants.{Took, Fails}
 use Rattle.reader.specs.declared.part.Many.{Many}
 use Rattle.reader.specs.declared.part.Many.the-variants as many
+use Rattle.reader.specs.declared.part.Entries.{Entries}
+use Rattle.reader.specs.declared.part.Entries.the-variants as entries
 use Rattle.reader.specs.declared.part.Due.{Due}
 use Rattle.reader.specs.declared.part.Due.the-variants.{Here, Absent, Not}
 use Rattle.rules.specs.declared.table.Need.{Need}
@@ -24,7 +26,7 @@ use Rattle.elements.specs.declared.fault.Fault.the-variants.{PathPair, FillDiff
 use Rattle.rules.specs.Objects.{same}
 use Rattle.rules.specs.Tables.{pwdFlagsRow}
 use Rattle.rules.specs.Parts.{absent, component, toEnd}
-use Rattle.rules.specs.Files.{toFill, filled}
+use Rattle.rules.specs.Files.{toFill, filled, namesOf, paths, firstAgain, entryPlace}
 use Rattle.rules.specs.Book.{encode}
 
 -- the code's answer is the definition's: its records are laid out from o on in the lent book, which was a and is b; what was read lies from `at` to `end`
@@ -94,6 +96,20 @@ pub record Filled (s : List ℕ) (b end at r : ℕ) : Type 0 where
 pub data DidObjects (a b u v : List ℕ) (o at end k : ℕ) : Res → Many → Type 0 where
   didObjects : {bs : List Rec} {ms : List ℕ} {n q j : ℕ} → Put a b o q (encode bs) → Put u v k j ms → at ≤ n → n ≤ end → q ≤ 8 * n → j ≤ 128 → DidObjects a b u v o at end k (took bs ms n) (many.Took n q j)
   fellObjects : {f : Fault} {p : ℕ} → length b ≡ length a → length v ≡ length u → DidObjects a b u v o at end k (fails f p) (many.Fails f p)
+
+-- 12: `again` is the place of the first entry of EF.OD that names a path once more, or 0, and all the paths ps differ
+pub record PathsTold (s : List ℕ) (end at : ℕ) (ps : List (List ℕ)) (again : ℕ) : Type 0 where
+  pub never : again ≡ 0 → firstAgain [] ps ≡ length ps
+  pub twice : 0 < again → (firstAgain [] ps < length ps) × (again ≡ entryPlace s (length s) (firstAgain [] ps) end at)
+
+-- the same of EF.OD's entries, with that place
+abbrev pub objectsOf : Entries → Many
+objectsOf (entries.Took n q j again) = many.Took n q j
+objectsOf (entries.Fails f p) = many.Fails f p
+
+pub record DidEntries (s a b u v : List ℕ) (o at end : ℕ) (w : Res) (r : Entries) : Type 0 where
+  pub objects : DidObjects a b u v o at end 0 w (objectsOf r)
+  pub told : {cs : List Rec} {ms : List ℕ} {m n q j again : ℕ} → w ≡ took cs ms m → r ≡ entries.Took n q j again → PathsTold s end at (paths (namesOf cs)) again
 
 pub record ForwardMany (at : ℕ) (r : Many) : Type 0 where
   pub is : (n q j : ℕ) → r ≡ many.Took n q j → at < n

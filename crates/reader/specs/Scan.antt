@@ -8,15 +8,13 @@ use lib.Seq.{slice}
 use lib.Dec.{leb, eqb}
 use Rattle.elements.specs.Choice.{pick}
 use Rattle.elements.specs.declared.fault.Fault.the-variants.{AuthIdTwice}
-use Rattle.reader.specs.declared.scan.Again.{Again}
-use Rattle.reader.specs.declared.scan.Again.the-variants.{Before, Never}
 use Rattle.reader.specs.declared.scan.Clash.{Clash}
 use Rattle.reader.specs.declared.scan.Clash.the-variants.{At, None}
 use Rattle.reader.specs.declared.scan.Key.{Key}
 use Rattle.reader.specs.declared.scan.Key.the-variants.{Path, Own}
 use Rattle.rules.specs.Reading.{Rec}
 use Rattle.rules.specs.Tables.{ownIdRow}
-use Rattle.rules.specs.Files.{Name, namesOf, paths, met, firstAgain, two, Check, fine, wrongAt, repeated}
+use Rattle.rules.specs.Files.{Name, namesOf, paths, met, two, Check, fine, wrongAt, repeated}
 use Rattle.rules.specs.Book.{encode}
 use Rattle.rules.specs.Laws.{Laid}
 use Rattle.rules.specs.CheckLaws.{ownIds}
@@ -34,11 +32,6 @@ pub record Lies (b : List ℕ) (i end : ℕ) (rs : List Rec) : Type 0 where
 pub record Holds (b : List ℕ) (i end : ℕ) : Type 0 where
   pub rs : List Rec
   pub lies : Lies b i end rs
-
--- 12: how many path entries come before the first that names a path once more, or that none does
-pub record PathsTold (b : List ℕ) (i end : ℕ) (r : Again) : Type 0 where
-  pub twice : (rs : List Rec) (m : ℕ) → Lies b i end rs → r ≡ Before m → (firstAgain [] (paths (namesOf rs)) ≡ m) × (m < length (paths (namesOf rs)))
-  pub never : (rs : List Rec) → Lies b i end rs → r ≡ Never → firstAgain [] (paths (namesOf rs)) ≡ length (paths (namesOf rs))
 
 -- 13: the place of the first object that repeats an own authId, by the objects' places
 abbrev pub clashOf : Clash → Check
@@ -97,9 +90,9 @@ pub record MetTold (b : List ℕ) (x : Key) (i j p e : ℕ) (r : Bool) : Type 0 
 pub record RepeatTold (b : List ℕ) (x : Key) (i j : ℕ) (r : Bool) : Type 0 where
   pub is : (rs : List Rec) → Lies b i j rs → r ≡ (bears b x j && met (keyAt b x j) (keysOf x rs))
 
--- one more if the record at j names a path
-abbrev pub counts : List ℕ → ℕ → ℕ → ℕ
-counts b j m = pick (bears b Path j) (m + 1) m
+-- `again`, unless it is 0; else `place`, if the record at j names a path that one of the records from i to j names; else 0
+pub record AgainTold (b : List ℕ) (i j place again r : ℕ) : Type 0 where
+  pub is : (rs : List Rec) → Lies b i j rs → r ≡ pick (eqb again 0) (pick (bears b Path j && met (keyAt b Path j) (keysOf Path rs)) place 0) again
 
 -- the keys of the records at the first c places of an index
 abbrev pub placedKeys : List ℕ → List ℕ → ℕ → List (List ℕ)

@@ -8,9 +8,10 @@ use Rattle.elements.specs.Put.{Put}
 use Rattle.rules.specs.declared.outcome.Outcome.{Outcome}
 use Rattle.rules.specs.declared.outcome.Outcome.the-variants.{Accepted, Refused}
 use Rattle.rules.specs.Reading.{Rec}
-use Rattle.rules.specs.Files.{File, files, frames, Answer, accepted, refused, onRes, od, readFiles, readParts}
+use Rattle.rules.specs.Files.{File, files, frames, Answer, accepted, refused, onRes, od, namesOf, paths, readFiles, readParts}
 use Rattle.rules.specs.Book.{encode}
 use Rattle.rules.specs.Laws.{Laid}
+use Rattle.reader.specs.Did.{PathsTold}
 use Rattle.reader.specs.Scan.{Lies}
 
 -- the code's answer is the definition's: the records behind those that were laid out before, `old`, are laid out from o on in the lent book, which was a and is b
@@ -37,15 +38,16 @@ pub record Opening (s : List ℕ) (stop : ℕ) (a : List ℕ) (i end : ℕ) (u :
   pub many : 128 ≤ length u
 
 -- EF.OD is read
-pub record Opened (s : List ℕ) (start stop : ℕ) (a : List ℕ) (i end : ℕ) (u : List ℕ) (k : ℕ) : Type 0 where
+pub record Opened (s : List ℕ) (stop : ℕ) (a : List ℕ) (i end : ℕ) (u : List ℕ) (k : ℕ) : Type 0 where
+  pub start : ℕ
   pub frame : Framing s start stop a
   pub cs : List Rec
   pub ms : List ℕ
   pub is : Opening s stop a i end u k cs ms
 
 -- 12, the files in turn, 13
-pub record FilesRead (s : List ℕ) (start stop : ℕ) (a b : List ℕ) (i end : ℕ) (u : List ℕ) (k : ℕ) (r : Outcome) : Type 0 where
-  pub is : (o : File) (fs : List File) (bs cs : List Rec) (ms : List ℕ) → o .start ≡ start → o .stop ≡ stop → frames s (length s) stop ≡ files fs → Opening s stop a i end u k cs ms →
+pub record FilesRead (s : List ℕ) (stop : ℕ) (a b : List ℕ) (i end : ℕ) (u : List ℕ) (k again : ℕ) (r : Outcome) : Type 0 where
+  pub is : (o : File) (fs : List File) (bs cs : List Rec) (ms : List ℕ) → o .stop ≡ stop → frames s (length s) stop ≡ files fs → Opening s stop a i end u k cs ms → PathsTold s stop (o .start) (paths (namesOf cs)) again →
       Reads (bs ++ cs) a b end (readFiles s o fs bs cs ms) r
 
 -- EF.OD, and these

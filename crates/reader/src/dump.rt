@@ -5,13 +5,11 @@ use crate::frame::Framed;
 use crate::frame::frame;
 use crate::frame::frames;
 use crate::info::info;
+use crate::part::Entries;
 use crate::part::Many;
 use crate::part::Part;
-use crate::place::entry_place;
-use crate::scan::Again;
 use crate::scan::Clash;
 use crate::scan::id_twice;
-use crate::scan::path_twice;
 use crate::twelve::Followed;
 use crate::twelve::follow;
 use elements::Fault;
@@ -23,30 +21,30 @@ ghost use lib.ListN.{length};
 ghost use Rattle.rules.specs.Files.{readDump};
 ghost use Rattle.reader.specs.Stages.{Reads, Framing, Opened, FilesRead, EntriesRead, PartsRead};
 
-// 12, the files in turn, 13: EF.OD from `start` to `stop` has the records that the book has from i to end, with k objects, whose places are in marks.
+// 12, the files in turn, 13: EF.OD up to `stop` has the records that the book has from i to end, with k objects, whose places are in marks; `again` is the place of its first entry that names a path once more, 0 if none does.
 fn read_files(
     s: &[u8],
-    start: usize,
     stop: usize,
     out: &mut [u8],
     i: usize,
     end: usize,
     marks: &mut [u32],
     k: usize,
+    again: usize,
 ) -> Outcome
-    requires { ⌜ Opened (now s) start stop (now out) i end (now marks) k ⌝ }
-    ensures { λ r. ⌜ FilesRead (now (s .entry)) start stop (now (out .entry)) (now (out .exit)) i end (now (marks .entry)) k r ⌝ }
+    requires { ⌜ Opened (now s) stop (now out) i end (now marks) k ⌝ }
+    ensures { λ r. ⌜ FilesRead (now (s .entry)) stop (now (out .entry)) (now (out .exit)) i end (now (marks .entry)) k again r ⌝ }
 {
-    match path_twice(out, i, end) {
-        Again::Before(m) => Outcome::Refused(Fault::PathTwice, entry_place(s, m, stop, start)),
-        Again::Never => match follow(s, stop, out, i, end) {
-            Followed::Wrong(f, p) => Outcome::Refused(f, p),
-            Followed::Fine => match directories(s, stop, i, end, k, out, end, marks) {
-                Many::Fails(f, p) => Outcome::Refused(f, p),
-                Many::Took(_, n, j) => match id_twice(out, i, n, &marks[..j]) {
-                    Clash::At(p) => Outcome::Refused(Fault::AuthIdTwice, p),
-                    Clash::None => Outcome::Accepted(n),
-                },
+    if again != 0 {
+        return Outcome::Refused(Fault::PathTwice, again);
+    }
+    match follow(s, stop, out, i, end) {
+        Followed::Wrong(f, p) => Outcome::Refused(f, p),
+        Followed::Fine => match directories(s, stop, i, end, k, out, end, marks) {
+            Many::Fails(f, p) => Outcome::Refused(f, p),
+            Many::Took(_, n, j) => match id_twice(out, i, n, &marks[..j]) {
+                Clash::At(p) => Outcome::Refused(Fault::AuthIdTwice, p),
+                Clash::None => Outcome::Accepted(n),
             },
         },
     }
@@ -65,8 +63,8 @@ fn read_entries(
     ensures { λ r. ⌜ EntriesRead (now (s .entry)) start stop (now (out .entry)) (now (out .exit)) i r ⌝ }
 {
     match object_directory(s, stop, start, out, i, marks) {
-        Many::Fails(f, p) => Outcome::Refused(f, p),
-        Many::Took(_, end, k) => read_files(s, start, stop, out, i, end, marks, k),
+        Entries::Fails(f, p) => Outcome::Refused(f, p),
+        Entries::Took(_, end, k, again) => read_files(s, stop, out, i, end, marks, k, again),
     }
 }
 

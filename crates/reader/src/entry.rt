@@ -4,12 +4,14 @@ use crate::keep::ended;
 use crate::keep::inner_run;
 use crate::object::object;
 use crate::part::Due;
+use crate::part::Entries;
 use crate::part::Many;
 use crate::part::Part;
 use crate::part::stands;
 use crate::records::put_bare;
 use crate::records::put_behind;
 use crate::records::put_two;
+use crate::scan::first_again;
 use elements::Fault;
 use elements::Head;
 use elements::Run;
@@ -26,7 +28,7 @@ ghost use Rattle.rules.specs.declared.table.Need.the-variants.{Required};
 ghost use Rattle.rules.specs.Reading.{_then_, rec, also};
 ghost use Rattle.rules.specs.Parts.{component, element, ended, repeat, toEnd, sealed};
 ghost use Rattle.rules.specs.Files.{toFill, objects, namedPath, entryInside, entryBody, od, directory};
-ghost use Rattle.reader.specs.Did.{Did, DidObjects, ForwardMany, moreOf, InElement, InContainer};
+ghost use Rattle.reader.specs.Did.{Did, DidObjects, DidEntries, ForwardMany, moreOf, InElement, InContainer};
 
 // Stores an object's place where there is room for it.
 fn put_place(marks: &mut [u32], k: usize, v: u32) -> usize
@@ -279,26 +281,28 @@ fn entry(
 }
 
 // EF.OD's entries, up to its fill.
-fn entries(s: &[u8], end: usize, at: usize, out: &mut [u8], o: usize, marks: &mut [u32]) -> Many
-    requires { ⌜ InContainer (now s) end at o ⌝ }
-    ensures { λ r. ⌜ DidObjects (now (out .entry)) (now (out .exit)) (now (marks .entry)) (now (marks .exit)) o at end 0 (repeat (toFill (now (s .entry))) (λ k. element (now (s .entry)) (entryBody (now (s .entry)) k)) (end - at) 0 end at) r ⌝ }
+fn entries(s: &[u8], end: usize, at: usize, out: &mut [u8], o: usize, marks: &mut [u32]) -> Entries
+    requires { ⌜ InContainer (now s) end at o × (o + 3 ≤ 4 * at) × (131072 ≤ length (now out)) ⌝ }
+    ensures { λ r. ⌜ DidEntries (now (s .entry)) (now (out .entry)) (now (out .exit)) (now (marks .entry)) (now (marks .exit)) o at end (repeat (toFill (now (s .entry))) (λ k. element (now (s .entry)) (entryBody (now (s .entry)) k)) (end - at) 0 end at) r ⌝ }
 {
     let mut k = 0;
     let mut n = at;
     let mut p = o;
+    let mut again = 0;
     while goes_on(s, end, n) {
         match entry(s, k, end, n, out, p, marks) {
             Many::Fails(f, x) => {
-                return Many::Fails(f, x);
+                return Entries::Fails(f, x);
             }
             Many::Took(m, t, j) => {
+                again = first_again(out, o, p, n, again);
                 k = j;
                 n = m;
                 p = t;
             }
         }
     }
-    Many::Took(n, p, k)
+    Entries::Took(n, p, k, again)
 }
 
 // EF.OD's file.
@@ -309,15 +313,15 @@ pub fn object_directory(
     out: &mut [u8],
     o: usize,
     marks: &mut [u32],
-) -> Many
-    requires { ⌜ InContainer (now s) end at o ⌝ }
-    ensures { λ r. ⌜ DidObjects (now (out .entry)) (now (out .exit)) (now (marks .entry)) (now (marks .exit)) o at end 0 (od (now (s .entry)) end at) r ⌝ }
+) -> Entries
+    requires { ⌜ InContainer (now s) end at o × (o + 3 ≤ 4 * at) × (131072 ≤ length (now out)) ⌝ }
+    ensures { λ r. ⌜ DidEntries (now (s .entry)) (now (out .entry)) (now (out .exit)) (now (marks .entry)) (now (marks .exit)) o at end (od (now (s .entry)) end at) r ⌝ }
 {
     match entries(s, end, at, out, o, marks) {
-        Many::Fails(f, p) => Many::Fails(f, p),
-        Many::Took(n, q, j) => match fill(s, 0x0107, end, n, out, q) {
-            Part::Fails(f, p) => Many::Fails(f, p),
-            Part::Took(m, t) => Many::Took(m, t, j),
+        Entries::Fails(f, p) => Entries::Fails(f, p),
+        Entries::Took(n, q, j, again) => match fill(s, 0x0107, end, n, out, q) {
+            Part::Fails(f, p) => Entries::Fails(f, p),
+            Part::Took(m, t) => Entries::Took(m, t, j, again),
         },
     }
 }

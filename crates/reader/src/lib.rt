@@ -13,7 +13,6 @@ mod kind;
 mod object;
 mod part;
 mod path;
-mod place;
 mod records;
 mod row;
 mod scan;

@@ -18,6 +18,12 @@ pub enum Many {
     Fails(Fault, usize),
 }
 
+// EF.OD's entries: the next place in the dump and in the book, how many objects, and the place of the first entry that names a path once more, 0 if none does; or a refusal and its place.
+pub enum Entries {
+    Took(usize, usize, usize, usize),
+    Fails(Fault, usize),
+}
+
 // Whether a component stands where it is due: from where to where its contents are; or a refusal and its place.
 pub enum Due {
     Here(usize, usize),

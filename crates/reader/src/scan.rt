@@ -6,13 +6,7 @@ ghost use Prim.Native.Nat.{_+_, _*_, _≤_};
 ghost use lib.ListN.{length, getD};
 ghost use lib.Seq.{slice};
 ghost use Rattle.rules.specs.Files.{two, equal, met};
-ghost use Rattle.reader.specs.Scan.{Holds, PathsTold, IdsTold, NameTold, Whole, Spans, behind, bears, keyAt, skip, counts, MetTold, RepeatTold, Places, placedKeys, Indexed, Noted};
-
-// Whether a path is named once more: how many path entries come before that one.
-pub enum Again {
-    Before(usize),
-    Never,
-}
+ghost use Rattle.reader.specs.Scan.{Holds, AgainTold, IdsTold, NameTold, Whole, Spans, behind, bears, keyAt, skip, MetTold, RepeatTold, Places, placedKeys, Indexed, Noted};
 
 // Whether an own authId is repeated: the place of the object that does.
 pub enum Clash {
@@ -121,32 +115,18 @@ pub fn next_name(b: &[u8], i: usize, end: usize) -> usize
     j
 }
 
-// m, and one more if the record at j names a path.
-fn counted(b: &[u8], j: usize, m: usize) -> usize
-    requires { ⌜ Whole (now b) j × (m ≤ j) ⌝ }
-    ensures { λ r. ⌜ r ≡ counts (now (b .entry)) j m ⌝ }
+// 12: `again`, if an entry before this one names a path once more; else `place`, if the record at j names a path that one of the records from i to j names; else 0.
+pub fn first_again(b: &[u8], i: usize, j: usize, place: usize, again: usize) -> usize
+    requires { ⌜ Holds (now b) i j × Whole (now b) j ⌝ }
+    ensures { λ r. ⌜ AgainTold (now (b .entry)) i j place again r ⌝ }
 {
-    if names(b, j) {
-        return m + 1;
+    if again != 0 {
+        return again;
     }
-    m
-}
-
-// 12: whether a path is named twice among the records from i to `end`.
-pub fn path_twice(b: &[u8], i: usize, end: usize) -> Again
-    requires { ⌜ Holds (now b) i end ⌝ }
-    ensures { λ r. ⌜ PathsTold (now (b .entry)) i end r ⌝ }
-{
-    let mut j = i;
-    let mut m = 0;
-    while j < end {
-        if repeats(b, Key::Path, i, j) {
-            return Again::Before(m);
-        }
-        m = counted(b, j, m);
-        j = after(b, j);
+    if repeats(b, Key::Path, i, j) {
+        return place;
     }
-    Again::Never
+    0
 }
 
 // A place as an index.

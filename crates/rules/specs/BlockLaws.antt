@@ -406,3 +406,10 @@ own-inside (takes (sole h f)) (List·Memᴰ·tail m) = f _ m
 -- "authentication objects with equal own authId": no other object has one
 pub own-id : (d : List ℕ) (entry k end at : ℕ) {n : ℕ} {bs : List Rec} {ms : List ℕ} → object d entry k end at ≡ took bs ms n → (x : List ℕ) → List·Memᴰ (rec (ownIdRow .kind) x) bs → classOf entry ≡ Authentications
 own-id d entry k end at e x m = owner (classOf entry) (own-inside (rw e at (sole-object d entry k end at)) m)
+
+-- an object's records are its 0120, and then none that closes it
+pub object-inner : (d : List ℕ) (entry k end at : ℕ) {n : ℕ} {bs : List Rec} {ms : List ℕ} → object d entry k end at ≡ took bs ms n → (p : List ℕ) × (rs : List Rec) × (bs ≡ rec 0x0120 p ∷ rs) × T (inner rs)
+object-inner d entry k end at e = go (rw e at (sole-object d entry k end at))
+  where
+    go : {own : Bool} {n : ℕ} {bs : List Rec} {ms : List ℕ} → Gives (Sole own k at) (took bs ms n) → (p : List ℕ) × (rs : List Rec) × (bs ≡ rec 0x0120 p ∷ rs) × T (inner rs)
+    go {own} (takes (sole {p = p} {rs = rs} h f)) = (p, rs, refl, closes-none own rs f)

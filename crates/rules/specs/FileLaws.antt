@@ -224,7 +224,7 @@ module _ (s : List ℕ) (bytes : (i : ℕ) → getD s i 0 < 256) (small : length
       (ok-map (λ _ _. within-facts t i j k w tt) (closed s bytes (any s bytes (inside-law t x)) e a j (omega arith)))
       (λ b rs h. rw (is-true (ltb (getD (b .pay) 1 0) 2) (h .1), h .0) refl)
 
-  entry-body : (k : ℕ) → ElemLaw s (entryBody s k) rEntry entryLook
+  pub entry-body : (k : ℕ) → ElemLaw s (entryBody s k) rEntry entryLook
   unfolding entryBody sealed rEntry rEntryOf
   entry-body x end at t a e i j k m w =
       by-test (leb 0xa0 t && leb t 0xa8) (λ _ y. entry-known x end at t a e i j k m (w (low-between t 0xa0 0xa8 y (omega arith) (omega arith)))) (λ _ _.

@@ -1,5 +1,5 @@
 use borrow.Author.Needs.{needs}
-use Rattle.reader.proofs.EntryLaws.{objects-high, objects-small, od-fails, od-fill-fails, od-filled}
+use Rattle.reader.proofs.EntryLaws.{od-high, od-small, od-fails, od-fill-fails, od-filled}
 use Rattle.reader.proofs.entry.object_directory.Statement.{statement}
 use Rattle.reader.proofs.entry.object_directory.Tie as tie
 
@@ -9,15 +9,15 @@ object-directory-spec =
     (λ c κs. search needs)  -- entries-requires
     (λ c. search needs)  -- enum-known-f
     (λ c. search needs)  -- enum-known-n
-    (λ c κs. search (objects-high, objects-small, od-fails, od-fill-fails, od-filled, needs))  -- fill-requires
+    (λ c κs. search (od-high, od-small, needs))  -- fill-requires
     (λ c. search needs)  -- enum-known-f-2
     (λ c. search needs)  -- enum-known-m
     (λ c. search needs)  -- same-length
     (λ c. search needs)  -- same-length-2
-    (λ c. search (objects-high, objects-small, od-fails, od-fill-fails, od-filled, needs))  -- returns
+    (λ c. search (od-fails, needs))  -- returns
     (λ c. search needs)  -- same-length-3
     (λ c. search needs)  -- same-length-4
-    (λ c. search (objects-high, objects-small, od-fails, od-fill-fails, od-filled, needs))  -- returns-2
+    (λ c. search (od-fill-fails, needs))  -- returns-2
     (λ c. search needs)  -- same-length-5
     (λ c. search needs)  -- same-length-6
-    (λ c. search (objects-high, objects-small, od-fails, od-fill-fails, od-filled, needs)))  -- returns-3
+    (λ c. search (od-filled, needs)))  -- returns-3
