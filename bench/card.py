@@ -31,7 +31,7 @@ def certificate(n):
 def pin(n):
     return thing(n, "PIN", (n + 1) % 40, PINS, [identifier(n)], element(0x30, element(0x03, b"\x03\x08"), element(0x0A, b"\x01"), element(0x02, b"\x04"), element(0x02, b"\x08")))
 
-KEYS, CERTIFICATES, PINS = 60, 45, 45
+KEYS, CERTIFICATES, PINS = 60, 50, 51
 
 def dump():
     entries = [(0xA0, b"\x44\x01", key), (0xA4, b"\x44\x02", certificate), (0xA8, b"\x44\x04", pin)]
