@@ -25,6 +25,7 @@ use Rattle.rules.specs.Objects.{quiet, condition, plainCondition, rule, rules, 
 use Rattle.reader.specs.Did.{Did, did, fell, Forward, Inside, Dues}
 use Rattle.reader.proofs.DidLaws.{did-then, did-fails}
 use Rattle.reader.proofs.RepeatLaws.{Marks, Going, going-none, going-fails, going-next, going-all}
+use Rattle.rules.specs.Layouts as layouts
 
 -- ---- a rule
 did-quiet : {a b : List ℕ} {o at end : ℕ} {w : Res} {r : Part} → Did a b o at end w r → Did a b o at end (quiet w) r
@@ -33,20 +34,19 @@ did-quiet (fell e) = fell e
 
 module _ (s : List ℕ) {a b : List ℕ} {o x e : ℕ} {r : Part} (d : Did a b o x e (components s (slice 0 1 ruleRows) e x) r) where
   pub rule-first : {f : Fault} {p : ℕ} → r ≡ Fails f p → Inside a b o x e (rule s) (Fails f p)
-  unfolding rule
+  unfolding layouts.rule
   rule-first z = record { is = λ at. did-fails (did-fails d (λ n. plainCondition s e n) z) (λ n. rest s 0x012c [] e n) refl }
 
   module _ {c : List ℕ} {n q : ℕ} (z : r ≡ Took n q) {r1 : Part} (d1 : Did b c q n e (condition s 8 0 e n) r1) where
     rule-two : Did a c o x e (andThen (components s ruleRows e x) (λ n. plainCondition s e n)) r1
-    unfolding plainCondition
     rule-two = did-then d z (λ n. plainCondition s e n) (did-quiet d1)
 
     pub rule-second : {f : Fault} {p : ℕ} → r1 ≡ Fails f p → Inside a c o x e (rule s) (Fails f p)
-    unfolding rule
+    unfolding layouts.rule
     rule-second z1 = record { is = λ at. did-fails rule-two (λ n. rest s 0x012c [] e n) z1 }
 
     pub rule-third : {g : List ℕ} {m t : ℕ} → r1 ≡ Took m t → {r2 : Part} → Did c g t m e (rest s 0x012c [] e m) r2 → Inside a g o x e (rule s) r2
-    unfolding rule
+    unfolding layouts.rule
     rule-third z1 d2 = record { is = λ at. did-then rule-two z1 (λ n. rest s 0x012c [] e n) d2 }
 
 -- ---- what is required is never absent: a body that always fails leaves no way to take nothing
@@ -102,17 +102,17 @@ module _ {s : List ℕ} {a b : List ℕ} {end at o n p : ℕ} (h : Ruling s a b 
 -- ---- "at least one"
 module _ (s : List ℕ) {a b : List ℕ} {o x e : ℕ} {r : Part} (d : Did a b o x e (component s 0x30 Required (rule s) e x) r) where
   pub rules-first : {f : Fault} {p : ℕ} → r ≡ Fails f p → Inside a b o x e (rules s) (Fails f p)
-  unfolding rules
+  unfolding layouts.rules
   rules-first z = record { is = λ at. did-fails d (λ n. repeat toEnd (λ _. component s 0x30 Required (rule s)) (e - n) 0 e n) z }
 
   pub rules-second : {c : List ℕ} {n q : ℕ} → r ≡ Took n q → {r1 : Part} → Did b c q n e (repeat toEnd (λ _. component s 0x30 Required (rule s)) (e - n) 0 e n) r1 → Inside a c o x e (rules s) r1
-  unfolding rules
+  unfolding layouts.rules
   rules-second z d1 = record { is = λ at. did-then d z (λ n. repeat toEnd (λ _. component s 0x30 Required (rule s)) (e - n) 0 e n) d1 }
 
 -- ---- common attributes
 module _ (s : List ℕ) {a b : List ℕ} {o x e : ℕ} {r : Part} (d : Did a b o x e (components s (slice 0 4 commonRows) e x) r) where
   pub common-first : {f : Fault} {p : ℕ} → r ≡ Fails f p → Inside a b o x e (common s) (Fails f p)
-  unfolding common
+  unfolding layouts.common
   common-first z = record { is = λ at. did-fails (did-fails d (λ n. component s 0x30 Optional (rules s) e n) z) (λ n. rest s 0x012f (0x30 ∷ keptOut commonRows) e n) refl }
 
   module _ {c : List ℕ} {n q : ℕ} (z : r ≡ Took n q) {r1 : Part} (d1 : Did b c q n e (component s 0x30 Optional (rules s) e n) r1) where
@@ -120,9 +120,9 @@ module _ (s : List ℕ) {a b : List ℕ} {o x e : ℕ} {r : Part} (d : Did a b o
     common-two = did-then d z (λ n. component s 0x30 Optional (rules s) e n) d1
 
     pub common-second : {f : Fault} {p : ℕ} → r1 ≡ Fails f p → Inside a c o x e (common s) (Fails f p)
-    unfolding common
+    unfolding layouts.common
     common-second z1 = record { is = λ at. did-fails common-two (λ n. rest s 0x012f (0x30 ∷ keptOut commonRows) e n) z1 }
 
     pub common-third : {g : List ℕ} {m t : ℕ} → r1 ≡ Took m t → {r2 : Part} → Did c g t m e (rest s 0x012f (0x30 ∷ keptOut commonRows) e m) r2 → Inside a g o x e (common s) r2
-    unfolding common
+    unfolding layouts.common
     common-third z1 d2 = record { is = λ at. did-then common-two z1 (λ n. rest s 0x012f (0x30 ∷ keptOut commonRows) e n) d2 }

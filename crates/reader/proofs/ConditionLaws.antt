@@ -32,6 +32,7 @@ use Rattle.rules.specs.Book.{encode}
 use Rattle.reader.specs.Did.{Did, did, fell, Forward, Stays, DidMany, didMany, fellMany}
 use Rattle.reader.proofs.DidLaws.{encode-append, encode-one, did-one, did-fails, did-ends, element-fails, element-here}
 use Rattle.reader.proofs.RepeatLaws.{Marks, Going, going-none, going-fell, going-next, going-many}
+use Rattle.rules.specs.Layouts as layouts
 
 -- ---- the sort that has a tag
 module _ (t : ℕ) where
@@ -85,17 +86,17 @@ abbrev Inner : List ℕ → ℕ → ℕ → Reader
 Inner s l = λ j f i. condition s l j f i
 
 by-level : (s : List ℕ) (levels k end at : ℕ) → (levels ≡ 0 → ⊥) → condition s levels k end at ≡ counts at (element s (conditionBody s (Inner s (levels - 1)) (k + 1)) end at)
-unfolding condition
+unfolding layouts.condition
 by-level s zero k end at n = absurd (n refl)
 by-level s (suc l) k end at n = let u : suc l - 1 ≡ l = omega arith in rw u refl
 
 module _ (s : List ℕ) (levels k end at : ℕ) where
   pub condition-deep : (a : List ℕ) (o : ℕ) → levels ≡ 0 → at < end → Did a a o at end (condition s levels k end at) (Fails TooDeep at)
-  unfolding condition
+  unfolding layouts.condition
   condition-deep a o z h = rw z (rw (condition, lt-ltb at end h) (fell refl))
 
   pub condition-end : (a : List ℕ) (o : ℕ) → levels ≡ 0 → end ≤ at → Did a a o at end (condition s levels k end at) (Fails Missing end)
-  unfolding condition
+  unfolding layouts.condition
   condition-end a o z h = rw z (rw (condition, le-ltb at end h) (fell refl))
 
   module _ (n : levels ≡ 0 → ⊥) {h : Head} (g : h ≡ header s at end) where
@@ -170,7 +171,7 @@ fails-marks : (f : Fault) (p c : ℕ) → Marks (fails f p) c
 fails-marks f p c = record { is = λ cs ns m e. let z : _≡_ {A = ℕ} 0 1 = cc in absurd (omega arith) }
 
 one-mark : (s : List ℕ) (levels k end at : ℕ) → Marks (condition s levels k end at) 1
-unfolding condition
+unfolding layouts.condition
 one-mark s zero k end at = by-choose (λ w. Marks w 1) (ltb at end) (λ _ _. fails-marks TooDeep at 1) (λ _ _. fails-marks Missing end 1)
 one-mark s (suc l) k end at = counts-marks at (element s (conditionBody s (Inner s l) (k + 1)) end at)
 

@@ -562,14 +562,14 @@ module _ {s a b u v : List ℕ} {o at end : ℕ} {w : Entries} (d : DidEntries s
 
 module _ {a b u v : List ℕ} {o at end k : ℕ} (s : List ℕ) (entry : ℕ) {w : Many} (d : DidObjects a b u v o at end k (also (rec 0x0118 [] ∷ []) [] (objects s (toFill s) entry k end at)) w) where
   pub directory-fails : {f : Fault} {p : ℕ} → w ≡ many.Fails f p → DidObjects a b u v o at end k (directory s entry k end at) (many.Fails f p)
-  unfolding directory
+  unfolding directory objects
   directory-fails z = objects-fails d (λ n. fill s 0x0107 end n) z
 
   module _ {n q j : ℕ} (z : w ≡ many.Took n q j) {c : List ℕ} {x : Part} (e : Did b c q n end (fill s 0x0107 end n) x) where
     pub directory-fill-fails : {f : Fault} {p : ℕ} → x ≡ Fails f p → DidObjects a c u v o at end k (directory s entry k end at) (many.Fails f p)
-    unfolding directory
+    unfolding directory objects
     directory-fill-fails y = objects-then-fell d z (λ m. fill s 0x0107 end m) e y
 
     pub directory-filled : {m t : ℕ} → x ≡ Took m t → DidObjects a c u v o at end k (directory s entry k end at) (many.Took m t j)
-    unfolding directory
+    unfolding directory objects
     directory-filled y = objects-then d z (λ m. fill s 0x0107 end m) e (plain-fill s 0x0107 end n) y

@@ -23,6 +23,7 @@ use Rattle.rules.specs.Tables.{ciaRows}
 use Rattle.rules.specs.Files.{toFill, filled, fill, ciaBody, ciaElement, ciaFill, cia}
 use Rattle.reader.specs.Did.{Did, fell, Inside, Filled}
 use Rattle.reader.proofs.DidLaws.{did-none, did-one, did-then, did-fails}
+use Rattle.rules.specs.Layouts as layouts
 
 module _ (s : List ℕ) (end at : ℕ) where
   pub on-end : end ≤ at → false ≡ toFill s end at
@@ -86,36 +87,31 @@ module _ (s : List ℕ) (kind end at : ℕ) where
 
 -- CIAInfo's file
 pub info-inside : {a b : List ℕ} {o x e : ℕ} {r : Part} (s : List ℕ) → Did a b o x e ((components s ciaRows then rest s 0x0106 (keptOut ciaRows)) e x) r → Inside a b o x e (ciaBody s) r
-unfolding ciaBody
+unfolding layouts.info
 info-inside s d = record { is = λ at. d }
 
 module _ (s : List ℕ) (end at : ℕ) {t : Bool} (k : t ≡ toFill s end at) where
   pub info-none : (a : List ℕ) (o : ℕ) → t ≡ false → Did a a o at end (ciaElement s end at) (Fails Missing end)
-  unfolding ciaElement
   info-none a o e = rw (sym k ∙ e) (fell refl)
 
   pub info-one : {a b : List ℕ} {o : ℕ} {r : Part} → t ≡ true → Did a b o at end (component s 0x30 Required (ciaBody s) end at) r → Did a b o at end (ciaElement s end at) r
-  unfolding ciaElement
   info-one e d = rw (sym k ∙ e) d
 
   pub more-filled : {a b : List ℕ} {o : ℕ} {r : Part} → t ≡ false → Did a b o at end (fill s 0x0108 end at) r → Did a b o at end (ciaFill s end at) r
-  unfolding ciaFill
   more-filled e d = rw (sym k ∙ e) d
 
   module _ {h : Head} (e : t ≡ true) (g : h ≡ header s at end) where
     pub more-bad : (a : List ℕ) (o : ℕ) {f : Fault} {p : ℕ} → h ≡ No f p → Did a a o at end (ciaFill s end at) (Fails f p)
-    unfolding ciaFill
     more-bad a o q = rw (sym k ∙ e, sym g ∙ q) (fell refl)
 
     pub more-one : (a : List ℕ) (o : ℕ) {x y z : ℕ} → h ≡ At x y z → Did a a o at end (ciaFill s end at) (Fails OneMore at)
-    unfolding ciaFill
     more-one a o q = rw (sym k ∙ e, sym g ∙ q) (fell refl)
 
 module _ {a b : List ℕ} {o at end : ℕ} (s : List ℕ) {w : Part} (d : Did a b o at end (ciaElement s end at) w) where
   pub info-fails : {f : Fault} {p : ℕ} → w ≡ Fails f p → Did a b o at end (cia s end at) (Fails f p)
-  unfolding cia
+  unfolding layouts.cia
   info-fails z = did-fails d (λ n. ciaFill s end n) z
 
   pub info-then : {n q : ℕ} {c : List ℕ} {r : Part} → w ≡ Took n q → Did b c q n end (ciaFill s end n) r → Did a c o at end (cia s end at) r
-  unfolding cia
+  unfolding layouts.cia
   info-then z g = did-then d z (λ m. ciaFill s end m) g

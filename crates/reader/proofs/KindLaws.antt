@@ -32,11 +32,12 @@ use Rattle.rules.specs.Tables.{privateRows, pwdFlagsRow, passwordRows}
 use Rattle.rules.specs.Objects.{flagged, path, privateKey, certificateValue, certificate, password, typePart, typeBody}
 use Rattle.reader.specs.Did.{Did, fell, Stays, Inside, flagsSet, bothFlags}
 use Rattle.reader.proofs.DidLaws.{did-then, did-ends, did-fails, did-same, element-here}
+use Rattle.rules.specs.Layouts as layouts
 
 -- a private key
 module _ (s : List ℕ) {a b : List ℕ} {o x e : ℕ} {r : Part} (d : Did a b o x e (component s 0x30 Required (path s) e x) r) where
   pub private-first : {f : Fault} {p : ℕ} → r ≡ Fails f p → Inside a b o x e (privateKey s) (Fails f p)
-  unfolding privateKey
+  unfolding layouts.privateKey
   private-first z = record { is = λ at. did-fails (did-fails d (λ n. components s privateRows e n) z) (λ n. rest s 0x018f (keptOut privateRows) e n) refl }
 
   module _ {c : List ℕ} {n q : ℕ} (z : r ≡ Took n q) {r1 : Part} (d1 : Did b c q n e (components s (slice 0 1 privateRows) e n) r1) where
@@ -44,30 +45,30 @@ module _ (s : List ℕ) {a b : List ℕ} {o x e : ℕ} {r : Part} (d : Did a b o
     private-two = did-then d z (λ n. components s privateRows e n) d1
 
     pub private-second : {f : Fault} {p : ℕ} → r1 ≡ Fails f p → Inside a c o x e (privateKey s) (Fails f p)
-    unfolding privateKey
+    unfolding layouts.privateKey
     private-second z1 = record { is = λ at. did-fails private-two (λ n. rest s 0x018f (keptOut privateRows) e n) z1 }
 
     pub private-third : {g : List ℕ} {m t : ℕ} → r1 ≡ Took m t → {r2 : Part} → Did c g t m e (rest s 0x018f [] e m) r2 → Inside a g o x e (privateKey s) r2
-    unfolding privateKey
+    unfolding layouts.privateKey
     private-third z1 d2 = record { is = λ at. did-then private-two z1 (λ n. rest s 0x018f (keptOut privateRows) e n) d2 }
 
 -- a certificate
 module _ (s : List ℕ) (end at : ℕ) {h : Head} {t x e : ℕ} (k : h ≡ header s at end) (q : h ≡ At t x e) {a b : List ℕ} {o : ℕ} {r : Part} where
   pub value-path : t ≡ 0x30 → Did a b o x e (path s at x e) r → Did a b o at end (element s (certificateValue s) end at) r
-  unfolding certificateValue
+  unfolding layouts.certificateValue
   value-path z d = element-here s (certificateValue s) end at k q (rw (eq-eqb t 0x30 z) d)
 
   pub value-sealed : (t ≡ 0x30 → ⊥) → Did a b o x e (sealed s 0x0184 [] t at x e) r → Did a b o at end (element s (certificateValue s) end at) r
-  unfolding certificateValue
+  unfolding layouts.certificateValue
   value-sealed z d = element-here s (certificateValue s) end at k q (rw (ne-eqb t 0x30 z) d)
 
 module _ (s : List ℕ) {a b : List ℕ} {o x e : ℕ} {r : Part} (d : Did a b o x e (element s (certificateValue s) e x) r) where
   pub certificate-first : {f : Fault} {p : ℕ} → r ≡ Fails f p → Inside a b o x e (certificate s) (Fails f p)
-  unfolding certificate
+  unfolding layouts.certificate
   certificate-first z = record { is = λ at. did-fails d (λ n. rest s 0x018f [] e n) z }
 
   pub certificate-second : {c : List ℕ} {n q : ℕ} → r ≡ Took n q → {r1 : Part} → Did b c q n e (rest s 0x018f [] e n) r1 → Inside a c o x e (certificate s) r1
-  unfolding certificate
+  unfolding layouts.certificate
   certificate-second z d1 = record { is = λ at. did-then d z (λ n. rest s 0x018f [] e n) d1 }
 
 -- the parts of a password
@@ -91,28 +92,26 @@ module _ (s : List ℕ) {a b : List ℕ} {o x e : ℕ} {r : Part} (d : Did a b o
 -- the one element that a type is
 module _ (s : List ℕ) {x : ObjectType} {a b : List ℕ} {o end at : ℕ} {r : Part} where
   pub type-private : x ≡ PrivateKey → Did a b o at end (component s 0x30 Required (privateKey s) end at) r → Did a b o at end (typePart s x end at) r
-  unfolding typePart
+  unfolding layouts.typed
   type-private z d = rw z d
 
   pub type-certified : x ≡ Certificate → Did a b o at end (component s 0x30 Required (certificate s) end at) r → Did a b o at end (typePart s x end at) r
-  unfolding typePart
+  unfolding layouts.typed
   type-certified z d = rw z d
 
   pub type-secret : x ≡ Password → Did a b o at end (component s 0x30 Required (password s) end at) r → Did a b o at end (typePart s x end at) r
-  unfolding typePart
+  unfolding layouts.typed
   type-secret z d = rw z d
 
   pub type-sealed : x ≡ Sealed → Did a b o at end (element s (sealed s 0x01a0 []) end at) r → Did a b o at end (typePart s x end at) r
-  unfolding typePart
+  unfolding layouts.typed
   type-sealed z d = rw z d
 
 module _ (s : List ℕ) (y : ObjectType) {a b : List ℕ} {o x e : ℕ} {r : Part} (d : Did a b o x e (typePart s y e x) r) where
   pub type-first : {f : Fault} {p : ℕ} → r ≡ Fails f p → Inside a b o x e (typeBody s y) (Fails f p)
-  unfolding typeBody
   type-first z = record { is = λ at. did-fails d (λ n. ended s e n) z }
 
   pub type-second : {n q : ℕ} → r ≡ Took n q → {r1 : Part} → Stays q n e (ended s e n) r1 → Inside a b o x e (typeBody s y) r1
-  unfolding typeBody
   type-second z d1 = record { is = λ at. did-ends d z (λ n. ended s e n) d1 }
 
 -- whether a flag word has bits 6 and 7 both set
@@ -168,7 +167,7 @@ flags-parts s e x = flags-then (flags-then (flags-then (flags-row s e x) _) _) _
 -- the rule, on what was read
 module _ (s : List ℕ) (at : ℕ) {a b : List ℕ} {o x e : ℕ} {r : Part} (d : Did a b o x e (parts s e x) r) where
   pub password-first : {f : Fault} {p : ℕ} → r ≡ Fails f p → Did a b o x e (password s at x e) (Fails f p)
-  unfolding password
+  unfolding layouts.password
   password-first {f} {p} z = go (rw z at d)
     where
       go : {w : Res} → Did a b o x e w (Fails f p) → Did a b o x e (flagged at w) (Fails f p)
@@ -176,14 +175,14 @@ module _ (s : List ℕ) (at : ℕ) {a b : List ℕ} {o x e : ℕ} {r : Part} (d 
 
   module _ {n q : ℕ} (z : r ≡ Took n q) {y : Bool} (k : y ≡ bothFlags s x e) where
     pub password-both : y ≡ true → Did a b o x e (password s at x e) (Fails PasswordFlags at)
-    unfolding password
+    unfolding layouts.password
     password-both t = go (rw (sym k ∙ t) at (flags-parts s e x)) (rw z at d)
       where
         go : {w : Res} → Flags true w → Did a b o x e w (Took n q) → Did a b o x e (flagged at w) (Fails PasswordFlags at)
         go (flags u) v = rw u (fell (did-same v))
 
     pub password-plain : y ≡ false → Did a b o x e (password s at x e) (Took n q)
-    unfolding password
+    unfolding layouts.password
     password-plain t = go (rw (sym k ∙ t) at (flags-parts s e x)) (rw z at d)
       where
         go : {w : Res} → Flags false w → Did a b o x e w (Took n q) → Did a b o x e (flagged at w) (Took n q)

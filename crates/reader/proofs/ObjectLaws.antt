@@ -25,6 +25,7 @@ use Rattle.rules.specs.Objects.{common, classBody, subclass, typeBody, contents
 use Rattle.reader.specs.Did.{Did, fell, Stays}
 use Rattle.reader.proofs.DidLaws.{did-then, did-ends, did-fails, element-fails, element-here}
 use Rattle.reader.proofs.ConditionLaws.{did-counts, before}
+use Rattle.rules.specs.Layouts as layouts
 
 -- ---- "tag 30 or A0 to A7"
 module _ (t : ℕ) where
@@ -62,7 +63,7 @@ module _ (s : List ℕ) (entry : ℕ) {a b : List ℕ} {o end at : ℕ} {r : Par
 -- ---- the contents of an object
 module _ (s : List ℕ) (entry tag : ℕ) {a b : List ℕ} {o end at : ℕ} {r : Part} (d : Did a b o at end (three s entry end at) r) where
   pub contents-first : {f : Fault} {p : ℕ} → r ≡ Fails f p → Did a b o at end (contents s entry tag end at) (Fails f p)
-  unfolding contents
+  unfolding layouts.contents
   contents-first z = did-fails (did-fails d (λ n. component s 0xa1 Required (typeBody s (typeOf entry tag)) end n) z) (λ n. ended s end n) refl
 
   module _ {c : List ℕ} {n q : ℕ} (z : r ≡ Took n q) {y : ObjectType} (k : y ≡ typeOf entry tag) {r1 : Part} (d1 : Did b c q n end (component s 0xa1 Required (typeBody s y) end n) r1) where
@@ -70,11 +71,11 @@ module _ (s : List ℕ) (entry tag : ℕ) {a b : List ℕ} {o end at : ℕ} {r :
     contents-two = did-then d z (λ n. component s 0xa1 Required (typeBody s (typeOf entry tag)) end n) (rw k at d1)
 
     pub contents-second : {f : Fault} {p : ℕ} → r1 ≡ Fails f p → Did a c o at end (contents s entry tag end at) (Fails f p)
-    unfolding contents
+    unfolding layouts.contents
     contents-second z1 = did-fails contents-two (λ n. ended s end n) z1
 
     pub contents-third : {m t : ℕ} → r1 ≡ Took m t → {r2 : Part} → Stays t m end (ended s end m) r2 → Did a c o at end (contents s entry tag end at) r2
-    unfolding contents
+    unfolding layouts.contents
     contents-third z1 d2 = did-ends contents-two z1 (λ n. ended s end n) d2
 
 -- ---- an object's element

@@ -28,6 +28,7 @@ use Rattle.rules.specs.Tables.{pathRows, efidOrPathRow, indexRow, lengthRow}
 use Rattle.rules.specs.Objects.{has, same, paired, path}
 use Rattle.reader.specs.Did.{Did, did, fell, Stays, Paired}
 use Rattle.reader.proofs.DidLaws.{did-then, did-ends, did-fails, did-as, did-same}
+use Rattle.rules.specs.Layouts as layouts
 
 module _ (at : ℕ) {i j : ℕ} where
   module _ (h : i ≡ j) where
@@ -154,7 +155,7 @@ module _ (s : List ℕ) (at : ℕ) {a b : List ℕ} {o x e : ℕ} {r : Part} (d 
   first = did-as d (then-none (one s efidOrPathRow e x))
 
   pub path-first : {f : Fault} {p : ℕ} → r ≡ Fails f p → Did a b o x e (path s at x e) (Fails f p)
-  unfolding path components
+  unfolding layouts.path components
   path-first z = paired-fails at (did-fails (did-fails first (λ n. components s (indexRow ∷ lengthRow ∷ []) e n) z) (λ n. ended s e n) refl)
 
   module _ {c : List ℕ} {i q : ℕ} (z : r ≡ Took i q) {r1 : Part} (d1 : Did b c q i e (components s (slice 1 2 pathRows) e i) r1) where
@@ -163,7 +164,7 @@ module _ (s : List ℕ) (at : ℕ) {a b : List ℕ} {o x e : ℕ} {r : Part} (d 
     second = did-as d1 (then-none (one s indexRow e i))
 
     pub path-second : {f : Fault} {p : ℕ} → r1 ≡ Fails f p → Did a c o x e (path s at x e) (Fails f p)
-    unfolding path components
+    unfolding layouts.path components
     path-second z1 = paired-fails at (did-fails (did-then first z (λ n. components s (indexRow ∷ lengthRow ∷ []) e n) (did-fails second (λ n. components s (lengthRow ∷ []) e n) z1)) (λ n. ended s e n) refl)
 
     module _ {g : List ℕ} {j t : ℕ} (z1 : r1 ≡ Took j t) {r2 : Part} (d2 : Did c g t j e (components s (slice 2 3 pathRows) e j) r2) where
@@ -175,7 +176,7 @@ module _ (s : List ℕ) (at : ℕ) {a b : List ℕ} {o x e : ℕ} {r : Part} (d 
       path-same = did-same three
 
       pub path-third : {f : Fault} {p : ℕ} → r2 ≡ Fails f p → Did a g o x e (path s at x e) (Fails f p)
-      unfolding path
+      unfolding layouts.path
       path-third z2 = paired-fails at (did-fails three (λ n. ended s e n) z2)
 
       module _ {k u : ℕ} (z2 : r2 ≡ Took k u) {r3 : Part} (d3 : Stays u k e (ended s e k) r3) where
@@ -183,7 +184,7 @@ module _ (s : List ℕ) (at : ℕ) {a b : List ℕ} {o x e : ℕ} {r : Part} (d 
         four = did-ends three z2 (λ n. ended s e n) d3
 
         pub path-more : {f : Fault} {p : ℕ} → r3 ≡ Fails f p → Did a g o x e (path s at x e) (Fails f p)
-        unfolding path
+        unfolding layouts.path
         path-more z3 = paired-fails at (rw z3 at four)
 
         module _ {n v : ℕ} (z3 : r3 ≡ Took n v) {y : Part} (pair : Paired at i j k n v y) where
@@ -217,5 +218,5 @@ module _ (s : List ℕ) (at : ℕ) {a b : List ℕ} {o x e : ℕ} {r : Part} (d 
           ruled = rw (has-held (indexRow .kind), has-held (lengthRow .kind)) (same-not (eqb i j) (eqb j k))
 
           pub path-pairs : Did a g o x e (path s at x e) y
-          unfolding path
+          unfolding layouts.path
           path-pairs = rw whole (paired-did at (same (eqb i j) (eqb j k)) ruled (did-as (rw z3 at four) whole) (pair .is))

@@ -1,5 +1,5 @@
 -- An accepted book is in blocks: each object of the dump stands whole in it, with all records that reading it gives, and there are at most 128. Only authentication objects have an own authId.
-use Prim.Native.Nat.{ℕ, zero, suc, _+_, _-_, _/_, _%_, _≤_, _<_}
+use Prim.Native.Nat.{ℕ, zero, suc, _+_, _-_, _≤_, _<_}
 use mathlib.Core.List.{List, [], _∷_, _++_, append-assoc, append-nil, List·Memᴰ, List·Memᴰ·head, List·Memᴰ·tail, List·Memᴰ·not-nil, List·Memᴰ·cases-cons, List·Memᴰ·append-cases}
 use mathlib.Core.Logic.{⊎-elim}
 use mathlib.Core.Bool.{Bool, true, false, _&&_, _||_, not}
@@ -12,7 +12,6 @@ use borrow.Author.Tests.{ltb-true}
 use Rattle.elements.specs.Choice.{choose}
 use Rattle.elements.specs.ChoiceLaws.{by-choose, all-both}
 use Rattle.elements.specs.Header.{header}
-use Rattle.elements.specs.Sealed.{sealedRun}
 use Rattle.elements.specs.Put.{le16}
 use Rattle.elements.specs.Values.{value}
 use Rattle.elements.specs.declared.fault.Fault.{Fault}
@@ -27,15 +26,19 @@ use Rattle.rules.specs.declared.table.Class.{Class}
 use Rattle.rules.specs.declared.table.Class.the-variants.{Keys, Certificates, Containers, Authentications}
 use Rattle.rules.specs.declared.table.ObjectType.{ObjectType}
 use Rattle.rules.specs.declared.table.ObjectType.the-variants.{PrivateKey, Certificate, Password, Sealed}
-use Rattle.rules.specs.declared.table.Sort.{Sort}
-use Rattle.rules.specs.declared.table.Sort.the-variants.{Always, Identifier, Not, And, Or, Other}
-use Rattle.rules.specs.Reading.{Rec, rec, Res, took, fails, also, andThen, _then_, Reader, Body, number}
-use Rattle.rules.specs.Parts.{Val, good, wrong, judged, absent, due, surplus, whatever, inside, valued, component, rowBody, components, ended, element, counted, repeat, toEnd, keep, rest, innerRun, sealed}
-use Rattle.rules.specs.Tables.{indexRow, lengthRow, ownIdRow, tagOf, kindOf, sortBy, classOf}
-use Rattle.rules.specs.Objects.{has, same, paired, flagged, counts, quiet, listed, path, identified, conditionAs, conditionBody, condition, plainCondition, rule, rules, common, classBody, subclass, privateKey, certificateValue, certificate, password, typePart, typeBody, contents, objectBody, object}
-use Rattle.rules.specs.Files.{Name, File, accepted, readDump, toFill, filled, fill, ciaBody, ciaElement, ciaFill, cia, objects, namedPath, entryInside, entryBody, od, directory, directories, namesOf}
+use Rattle.rules.specs.Reading.{Rec, rec, Res, took, fails, also, andThen, _then_, Reader, Body}
+use Rattle.rules.specs.Parts.{absent, due, surplus, whatever, inside, component, components, ended, element, counted, repeat, toEnd, keep, innerRun, sealed}
+use Rattle.rules.specs.Tables.{ownIdRow, classOf}
+use Rattle.rules.specs.Objects.{has, same, counts, common, subclass, contents, objectBody, object}
+use Rattle.rules.specs.Files.{Name, File, accepted, readDump, toFill, filled, fill, cia, objects, namedPath, entryInside, entryBody, od, directory, directories, namesOf}
 use Rattle.rules.specs.Blocks.{closing, inner, Blocks, none, other, whole, Blocked}
 use Rattle.rules.specs.CheckLaws.{accepted-checks}
+use Rattle.rules.specs.Layouts as layouts
+use Rattle.rules.specs.Kinds.{Among, none-there, there, Has, fell, has as has-all}
+use Rattle.rules.specs.Laws.{and-left, and-right}
+use borrow.Author.Tests.{eqb-true}
+use Rattle.elements.specs.Sealed.{among}
+use Rattle.rules.specs.Tables.{typeOf}
 
 -- what the marks of a part count: objects of a dump, after so many of them; or something else, and then the part is inside an object or in CIAInfo, and may have an own authId or not
 data Counting : Type 0 where
@@ -136,19 +139,6 @@ module _ {w : Counting} where
   good-surplus at (No f p) = refuses
   good-surplus at (At t a e) = refuses
 
-  good-valued : (r : Row) (at e : ℕ) (v : Val) → T (fits w (r .kind)) → Good w (valued r at e v)
-  good-valued r at e (good p) h = good-one (r .kind) p h
-  good-valued r at e (wrong f) h = refuses
-
-  good-paired : (at : ℕ) {r : Res} → Good w r → Good w (paired at r)
-  good-paired at refuses = refuses
-  good-paired at (takes {bs = bs} t) = good-test (same (has (indexRow .kind) bs) (has (lengthRow .kind) bs)) (takes t) refuses
-
-  good-flagged : (at : ℕ) {r : Res} → Good w r → Good w (flagged at r)
-  good-flagged at refuses = refuses
-  good-flagged at (takes {bs = []} t) = takes t
-  good-flagged at (takes {bs = r ∷ bs} t) = good-test (eqb (number (r .pay) / 64 % 4) 3) refuses (takes t)
-
 -- repetition, where the marks before k count as v says
 good-repeat : (v : ℕ → Counting) → ((k c : ℕ) → further (v k) c ≡ v (k + c)) → (more : ℕ → ℕ → Bool) (f : ℕ → Reader) (end : ℕ) → ((k at : ℕ) → Good (v k) (f k end at)) →
     (g k at : ℕ) → Good (v k) (repeat more f g k end at)
@@ -178,32 +168,6 @@ block d entry k end at {own} e (takes {n = n} (sole {rs = rs} h f)) = takes (few
 abbrev Free : Bool → Reader → Type 0
 Free own p = (end at : ℕ) → Good (others own) (p end at)
 
-abbrev FreeBody : Bool → Body → Type 0
-FreeBody own b = (at a e : ℕ) → Good (others own) (b at a e)
-
-module _ {own : Bool} where
-  free-then : {p q : Reader} → Free own p → Free own q → Free own (p then q)
-  free-then f g end at = good-then (f end at) (λ _ n. g end n)
-
-  free-inside : {p : Reader} → Free own p → FreeBody own (inside p)
-  free-inside f at a e = f e a
-
-  -- the marks of conditions, of which there may be any number
-  free-quiet : {r : Res} → Good (others own) r → Good (others own) (quiet r)
-  free-quiet refuses = refuses
-  free-quiet (takes (only f)) = takes (only f)
-
-  free-counts : (at : ℕ) {r : Res} → Good (others own) r → Good (others own) (counts at r)
-  free-counts at refuses = refuses
-  free-counts at (takes (only f)) = takes (only f)
-
-  free-listed : (kind e : ℕ) {r : Res} → T (fits (others own) kind) → Good (others own) r → Good (others own) (listed kind e r)
-  free-listed kind e h refuses = refuses
-  free-listed kind e h (takes {ms = ms} (only f)) = good-test (leb 2 (length ms)) (takes (cons kind (le16 (length ms)) h (only f))) refuses
-
-  free-repeat : {f : ℕ → Reader} → ((k : ℕ) → Free own (f k)) → (end at : ℕ) → Good (others own) (repeat toEnd f (end - at) 0 end at)
-  free-repeat {f} h end at = good-repeat (λ _. others own) (λ _ _. refl) toEnd f end (λ k i. h k end i) (end - at) 0 at
-
 -- only the attributes of authentication objects have an own authId
 abbrev owns : Class → Bool
 owns Keys = false
@@ -216,6 +180,19 @@ owner Keys h = absurd h
 owner Certificates h = absurd h
 owner Containers h = absurd h
 owner Authentications h = refl
+
+-- all of these kinds may stand there
+abbrev allFit : Bool → List ℕ → Bool
+allFit own [] = true
+allFit own (k ∷ ks) = fits (others own) k && allFit own ks
+
+fit : (own : Bool) (k : ℕ) (ks : List ℕ) → T (allFit own ks) → T (among k ks) → T (fits (others own) k)
+fit own k [] t h = absurd h
+fit own k (x ∷ ks) t h = go (eqb k x) refl h (fit own k ks (and-right (fits (others own) x) (allFit own ks) t))
+  where
+    go : (b : Bool) → eqb k x ≡ b → T (b || among k ks) → (T (among k ks) → T (fits (others own) k)) → T (fits (others own) k)
+    go true e h u = rw (eqb-true k x e) (and-left (fits (others own) x) (allFit own ks) t)
+    go false e h u = u h
 
 module _ (s : List ℕ) where
   -- elements, components, rests and fill
@@ -240,20 +217,9 @@ module _ (s : List ℕ) where
       go (No x p) = refuses
       go (At t a e) = good-test (eqb t tag) (f at a e) (lacks need refuses)
 
-  good-components : {own : Bool} (rows : List Row) → T (plainRows own rows) → Free own (components s rows)
-  unfolding components rowBody
-  good-components [] h end at = takes empty
-  good-components {own} (r ∷ rs) h end at =
-      let i = all-both (fits (others own) (r .kind)) (plainRows own rs) h in
-      good-then (good-component (r .tag) (r .need) (λ j a e. good-valued r j e (judged r (slice a e s) (value (r .form) (slice a e s))) (i .0)) end at) (λ _ n. good-components rs (i .1) end n)
-
   good-ended : {w : Counting} (end at : ℕ) → Good w (ended s end at)
   unfolding ended
   good-ended end at = good-test (ltb at end) (good-surplus at (header s at end)) (takes empty)
-
-  good-rest : {w : Counting} (kind : ℕ) (tags : List ℕ) → T (fits w kind) → (end at : ℕ) → Good w (rest s kind tags end at)
-  unfolding rest
-  good-rest kind tags h end at = good-test (ltb at end) (good-keep kind (slice at end s) end (sealedRun 16 s tags at end) h) (takes empty)
 
   good-sealed : {w : Counting} (kind : ℕ) (front : List ℕ) → T (fits w kind) → (t at a e : ℕ) → Good w (sealed s kind front t at a e)
   unfolding sealed
@@ -268,83 +234,40 @@ module _ (s : List ℕ) where
   unfolding fill
   good-fill {w} kind h end at = good-test (ltb at end) (good-then (good-filled (getD s at 0) (end - at) end at) (λ c n. good-one kind (getD s at 0 ∷ le16 (end - at)) (still w c kind h))) (takes empty)
 
-  free-element : {own : Bool} {b : ℕ → Body} → ((t : ℕ) → FreeBody own (b t)) → Free own (element s b)
-  free-element = good-element
-
   -- all that stands in an object, and CIAInfo
-  ruleset free = (free-then, free-inside, good-paired, good-flagged, free-element, good-component, good-components, good-ended, good-rest, good-sealed)
-
-  module _ {own : Bool} where
-    free-path : FreeBody own (path s)
-    unfolding path
-    free-path = search free
-
-    -- conditions, by their sort and by their levels
-    free-as : (inner : ℕ → Reader) → ((k : ℕ) → Free own (inner k)) → (x : Sort) (t : ℕ) → FreeBody own (conditionAs s inner x t)
-    unfolding conditionAs identified
-    free-as inner f Always t at a e = good-one (kindOf Always) [] tt
-    free-as inner f Identifier t at a e = good-test (leb (e - a) 255) (good-one (kindOf Identifier) (slice a e s) tt) refuses
-    free-as inner f Not t at a e = good-front (kindOf Not) [] tt (free-then (f 0) good-ended e a)
-    free-as inner f And t at a e = free-listed (kindOf And) e tt (free-repeat f e a)
-    free-as inner f Or t at a e = free-listed (kindOf Or) e tt (free-repeat f e a)
-    free-as inner f Other t at a e = good-sealed (kindOf Other) [] tt t at a e
-
-    free-condition : (l k : ℕ) → Free own (condition s l k)
-    unfolding condition conditionBody
-    free-condition zero k end at = good-test (ltb at end) refuses refuses
-    free-condition (suc l) k end at = free-counts at (good-element (λ t i a e.
-        good-test (eqb t (tagOf Always) && ltb a e) refuses (good-test (ltb 255 (k + 1)) refuses (free-as (condition s l) (free-condition l) (sortBy tagOf t) t i a e))) end at)
-
-    free-rule : FreeBody own (rule s)
-    unfolding rule plainCondition
-    free-rule = search (free, free-quiet, free-condition 8 0)
-
-    free-rules : FreeBody own (rules s)
-    unfolding rules
-    free-rules at a e = good-then (good-component 0x30 Required free-rule e a) (λ _ n. free-repeat (λ _. good-component 0x30 Required free-rule) e n)
-
-    free-common : FreeBody own (common s)
-    unfolding common
-    free-common = search (free, free-rules)
-
-    free-subclass : FreeBody own (subclass s)
-    unfolding subclass
-    free-subclass = search free
-
-    free-private : FreeBody own (privateKey s)
-    unfolding privateKey
-    free-private = search (free, free-path)
-
-    free-certificate : FreeBody own (certificate s)
-    unfolding certificate certificateValue
-    free-certificate = free-inside (free-then (good-element (λ t at a e. good-test (eqb t 0x30) (free-path at a e) (good-sealed 0x0184 [] tt t at a e))) (good-rest 0x018f [] tt))
-
-    free-password : FreeBody own (password s)
-    unfolding password
-    free-password = search (free, free-path)
-
-    free-type : (x : ObjectType) → FreeBody own (typeBody s x)
-    unfolding typeBody typePart
-    free-type PrivateKey = search (free, free-private)
-    free-type Certificate = search (free, free-certificate)
-    free-type Password = search (free, free-password)
-    free-type Sealed = search free
-
-  -- an own authId, by the class; CIAInfo has none
-  free-class : (c : Class) → FreeBody (owns c) (classBody s c)
-  unfolding classBody
-  free-class Keys = search free
-  free-class Certificates = search free
-  free-class Authentications = search free
-  free-class Containers = search good-keep
+  good-has : {own : Bool} (ks : List ℕ) → T (allFit own ks) → {r : Res} → Has ks r → Good (others own) r
+  good-has ks t fell = refuses
+  good-has {own} ks t (has-all {bs = bs} h) = takes (only (go h))
+    where
+      go : {bs : List Rec} → Among ks bs → Only own bs
+      go none-there = λ r m. absurd (List·Memᴰ·not-nil m)
+      go (there {r = b} f g) = λ r m. ⊎-elim (λ e. rw e (fit own (b .kind) ks t f)) (go g r) (List·Memᴰ·cases-cons m)
 
   free-contents : (entry tag : ℕ) → Free (owns (classOf entry)) (contents s entry tag)
-  unfolding contents
-  free-contents entry tag = search (free, free-common, free-class, free-subclass, free-type) depth 9
+  unfolding layouts.objectStop
+  free-contents entry tag end at = good-has (layouts.contents entry tag .all) (go (classOf entry) (typeOf entry tag)) (layouts.contents entry tag .only .reads s 0 end at)
+    where
+      go : (c : Class) (x : ObjectType) → T (allFit (owns c) (((layouts.common .all ++ layouts.class c .all) ++ layouts.subclass .all) ++ layouts.typed x .all))
+      go Keys PrivateKey = tt
+      go Keys Certificate = tt
+      go Keys Password = tt
+      go Keys Sealed = tt
+      go Certificates PrivateKey = tt
+      go Certificates Certificate = tt
+      go Certificates Password = tt
+      go Certificates Sealed = tt
+      go Authentications PrivateKey = tt
+      go Authentications Certificate = tt
+      go Authentications Password = tt
+      go Authentications Sealed = tt
+      go Containers PrivateKey = tt
+      go Containers Certificate = tt
+      go Containers Password = tt
+      go Containers Sealed = tt
 
   free-cia : Free false (cia s)
-  unfolding cia ciaElement ciaFill ciaBody
-  free-cia = free-then (λ end at. good-test (toFill s end at) (search free) refuses) (λ end at. good-test (toFill s end at) (good-surplus at (header s at end)) (good-fill 0x0108 tt end at))
+  unfolding layouts.cia layouts.info
+  free-cia end at = good-has (layouts.cia .all) tt (layouts.cia .only .reads s 0 end at)
 
   -- objects, entries and files, each after those before it
   sole-object : (entry k end at : ℕ) → Gives (Sole (owns (classOf entry)) k at) (object s entry k end at)
@@ -375,7 +298,7 @@ module _ (s : List ℕ) where
   good-od end at = good-then (good-repeat (after s) (λ _ _. refl) (toFill s) (λ k. element s (entryBody s k)) end (λ k i. good-element (good-entry k) end i) (end - at) 0 at) (λ _ n. good-fill 0x0107 tt end n)
 
   good-directory : (entry k end at : ℕ) → Good (after s k) (directory s entry k end at)
-  unfolding directory
+  unfolding directory objects
   good-directory entry k end at = good-then (good-front 0x0118 [] tt (good-objects (toFill s) entry k end at)) (λ _ n. good-fill 0x0107 tt end n)
 
   good-directories : (ns : List Name) (fs : List File) (k : ℕ) → Good (after s k) (directories s ns fs k)

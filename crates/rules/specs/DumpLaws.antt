@@ -24,6 +24,7 @@ use Rattle.rules.specs.PartLaws.{is-true}
 use Rattle.rules.specs.ValueLaws.{from-true}
 use Rattle.rules.specs.MarkLaws.{Marks, Marked, marked, marks-append, Stops, od-marked, directories-marked, entry-place, CheckOk, check-fine, check-at, repeated-ok}
 use Rattle.rules.specs.FileLaws.{ciaLook, odLook, directoryLook, cia-law, od-law, directory-law}
+use Rattle.rules.specs.Layouts.{objectStop}
 
 -- the two bytes of a number
 low-byte : (x y v : ℕ) → v ≡ x + 256 * y → x < 256 → v % 256 ≡ x
@@ -75,7 +76,7 @@ data NamedOk (s : List ℕ) (at : ℕ) : Framed → Type 0 where
   is-named : {f : File} → NamedFrame s at f → NamedOk s at (framed f)
 
 module _ (s : List ℕ) (bytes : (i : ℕ) → getD s i 0 < 256) where
-  framing-is : (kind at : ℕ) → at + 4 ≤ length s → 2 ≤ two s at → at + 2 + two s at ≤ length s → two s (at + 2) ≡ kind →
+  pub framing-is : (kind at : ℕ) → at + 4 ≤ length s → 2 ≤ two s at → at + 2 + two s at ≤ length s → two s (at + 2) ≡ kind →
       slice at (at + 2 + two s at) s ≡ framing kind (slice (at + 4) (at + 2 + two s at) s)
   unfolding framing recordBytes
   framing-is kind at h g l k =
@@ -87,7 +88,7 @@ module _ (s : List ℕ) (bytes : (i : ℕ) → getD s i 0 < 256) where
       sym (join at (at + 4) (at + 2 + two s at) s (omega arith) (omega arith)) ∙ rw (slice4 s at h, n, a, b, c, d) refl
 
   -- a record that is whole and of its kind
-  frame-of : (P : Framed → Type 0) (kind at : ℕ) (inner : ℕ → ℕ → Framed) → ((x : Fault) → P (broken x at)) →
+  pub frame-of : (P : Framed → Type 0) (kind at : ℕ) (inner : ℕ → ℕ → Framed) → ((x : Fault) → P (broken x at)) →
       (at + 4 ≤ length s → 2 ≤ two s at → at + 2 + two s at ≤ length s → two s (at + 2) ≡ kind → P (inner (at + 4) (at + 2 + two s at))) → P (frameOf s kind inner at)
   unfolding frameOf
   frame-of P kind at inner bad f =
@@ -114,7 +115,7 @@ module _ (s : List ℕ) (bytes : (i : ℕ) → getD s i 0 < 256) where
       let z : at + 4 + 0 ≡ at + 4 = omega arith in
       is-frame (record { start = z; order = omega arith; stop = l; whole = rw z (framing-is kind at h g l k) })))
 
-  path-in : (a k e : ℕ) → k ≡ getD s a 0 → a + (1 + k) ≤ e → e ≤ length s → 1 ≤ k → slice a e s ≡ length (slice (a + 1) (a + (1 + k)) s) ∷ (slice (a + 1) (a + (1 + k)) s ++ slice (a + (1 + k)) e s)
+  pub path-in : (a k e : ℕ) → k ≡ getD s a 0 → a + (1 + k) ≤ e → e ≤ length s → 1 ≤ k → slice a e s ≡ length (slice (a + 1) (a + (1 + k)) s) ∷ (slice (a + 1) (a + (1 + k)) s ++ slice (a + (1 + k)) e s)
   path-in a k e q h l z =
       let n : length (slice (a + 1) (a + (1 + k)) s) ≡ k = omega (arith, length-slice (a + 1) (a + (1 + k)) s (omega arith)) in
       sym (join a (a + 1) e s (omega arith) (omega arith)) ∙
@@ -179,7 +180,7 @@ chain-places (link w c) = (w .framed-at, chain-places c)
 
 chain-stops : {s : List ℕ} {at : ℕ} {fs : List File} → Chain s at fs → Stops (length s) fs
 chain-stops (over e) = tt
-chain-stops (link w c) = (w .stop, chain-stops c)
+chain-stops (link w c) = (w .order, w .stop, chain-stops c)
 
 -- what the directories came to
 data DirOk (s : List ℕ) (ns : List Name) (at : ℕ) : Res → Type 0 where
@@ -214,7 +215,7 @@ module _ (s : List ℕ) (bytes : (i : ℕ) → getD s i 0 < 256) where
   module _ (small : length s ≤ 32768) where
     dir-step : (n : Name) (ns : List Name) (f : File) (at : ℕ) {bs ds : List Rec} {j : ℕ} → n .path ≡ pathOf s f → NamedFrame s at f → Facts s rDirectory directoryLook (f .stop) (f .start) bs j →
         rDirectories ns ds ≡ slice (f .stop) (length s) s → Begins (0x0118 ∷ []) true ds → rDirectories (n ∷ ns) (bs ++ ds) ≡ slice at (length s) s
-    unfolding rDirectories
+    unfolding rDirectories objectStop
     dir-step n ns f at {bs} {ds} {j} e w g d b =
         let z : j ≡ f .stop = g .closes tt in
         let x : rDirectory (bs ++ ds) ≡ gives (slice (f .start) j s) ds = g .round ds (begins-alone (0x0118 ∷ []) (directoryLook .stop) b tt) in
@@ -268,7 +269,7 @@ module _ (s : List ℕ) (bytes : (i : ℕ) → getD s i 0 < 256) (small : length
   all-good : (c o : File) → Frame s 1 0 (c .start) (c .stop) → Frame s 2 (c .stop) (o .start) (o .stop) → {bs cs ds : List Rec} {i j : ℕ} →
       Facts s rCia ciaLook (c .stop) (c .start) bs i → Facts s rOd odLook (o .stop) (o .start) cs j →
       rDirectories (namesOf cs) ds ≡ slice (o .stop) (length s) s → Begins (0x0118 ∷ []) true ds → render (bs ++ (cs ++ ds)) ≡ s
-  unfolding render
+  unfolding render objectStop
   all-good c o v w {bs} {cs} {ds} {i} {j} f g d b =
       let x : rCia (bs ++ (cs ++ ds)) ≡ gives (slice (c .start) i s) (cs ++ ds) =
       f .round (cs ++ ds) (begins-fresh (odLook .first) (ciaLook .stop) (odLook .empty) ds (g .begins) tt (λ _. begins-alone (0x0118 ∷ []) (ciaLook .stop) b tt)) in
@@ -284,8 +285,8 @@ module _ (s : List ℕ) (bytes : (i : ℕ) → getD s i 0 < 256) (small : length
       Facts s rCia ciaLook (c .stop) (c .start) bs i → Facts s rOd odLook (o .stop) (o .start) cs j → Good s (readFiles s o fs bs cs ms)
   unfolding readFiles
   files-good c o v w {fs} ch {bs} {cs} ms mk f g =
-      by-choose (Good s) (ltb (firstAgain [] (paths (namesOf cs))) (length (paths (namesOf cs)))) (λ _ _. refuse (entryPlace s (length s) (firstAgain [] (paths (namesOf cs))) (o .stop) (o .start)) (entry-place s bytes (length s) (firstAgain [] (paths (namesOf cs))) (o .stop) (o .start) (w .order) (w .stop))) (λ _ _.
-      on-follow (follow-ok s bytes (namesOf cs) fs (chain-places ch)) (λ _ q. on-dirs (dirs-ok s bytes small q ch (length ms)) (directories-marked s bytes (namesOf cs) fs (length ms) (chain-stops ch)) (λ ds ns mn d b z y.
+      by-choose (Good s) (ltb (firstAgain [] (paths (namesOf cs))) (length (paths (namesOf cs)))) (λ _ _. refuse (entryPlace s (length s) (firstAgain [] (paths (namesOf cs))) (o .stop) (o .start)) (entry-place s bytes small (length s) (firstAgain [] (paths (namesOf cs))) (o .stop) (o .start) (w .order) (w .stop))) (λ _ _.
+      on-follow (follow-ok s bytes (namesOf cs) fs (chain-places ch)) (λ _ q. on-dirs (dirs-ok s bytes small q ch (length ms)) (directories-marked s bytes small (namesOf cs) fs (length ms) (chain-stops ch)) (λ ds ns mn d b z y.
       on-check (repeated-ok (length s) [] 0 (ms ++ ns) (cs ++ ds) (omega arith) (marks-append (length s) ms ns mk mn)) (accept (all-good c o v w f g d b)
       (omega (arith, size-append bs (cs ++ ds), size-append cs ds, f .bound, g .bound, f .low, f .high, g .low, g .high, z, v .start, v .order, w .start, w .order, w .stop)) (laid-append (length s) bs (cs ++ ds) (f .laid) (laid-append (length s) cs ds (g .laid) y)) small))))
     where
@@ -327,7 +328,7 @@ dump-good s bytes = by-choose (Good s) (leb (length s) 32768)
     on-frame s bytes small (v .stop) (frame-ok s bytes 2 (c .stop)) (λ o w.
     on-chain s bytes small (chain-ok s bytes (length s) (o .stop) (w .stop)) (λ fs ch.
     on-ok s bytes small (cia-law s bytes small (c .stop) (c .start) (v .order) (v .stop)) (λ bs _ _ f.
-    on-counted s bytes small (od-law s bytes small (o .stop) (o .start) (w .order) (w .stop)) (od-marked s bytes (o .stop) (o .start) (w .stop)) (λ cs ms _ mk g.
+    on-counted s bytes small (od-law s bytes small (o .stop) (o .start) (w .order) (w .stop)) (od-marked s bytes small (o .stop) (o .start) (w .order) (w .stop)) (λ cs ms _ mk g.
     files-good s bytes small c o v w ch ms mk f g))))))
     (λ _ _. refuse 0 (omega arith))
 

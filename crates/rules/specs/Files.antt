@@ -6,17 +6,21 @@ use lib.ListN.{length, getD, drop}
 use lib.Seq.{slice}
 use lib.Dec.{ltb, leb, eqb}
 use Rattle.elements.specs.declared.fault.Fault.{Fault}
-use Rattle.elements.specs.declared.fault.Fault.the-variants.{DumpSize, RecordBroken, RecordMissing, RecordKind, FileLength, PathLength, FillDiffers, PathTwice, FileDiffers, FileMissing, FileExtra, AuthIdTwice, BadSize, NotDue, Missing}
+use Rattle.elements.specs.declared.fault.Fault.the-variants.{DumpSize, RecordBroken, RecordMissing, RecordKind, FileLength, PathLength, PathTwice, FileDiffers, FileMissing, FileExtra, AuthIdTwice, BadSize, NotDue}
 use Rattle.elements.specs.declared.answer.Head.{Head}
 use Rattle.elements.specs.declared.answer.Head.the-variants.{At, No}
 use Rattle.elements.specs.Choice.{choose}
 use Rattle.elements.specs.Header.{header}
-use Rattle.elements.specs.Put.{le16}
 use Rattle.rules.specs.declared.table.Need.the-variants.{Required}
-use Rattle.rules.specs.Reading.{Rec, rec, Res, took, fails, also, andThen, _then_, Reader, Body}
-use Rattle.rules.specs.Parts.{component, components, ended, element, surplus, inside, rest, sealed, repeat, toEnd, counted, keptOut}
-use Rattle.rules.specs.Tables.{ciaRows, ownIdRow}
-use Rattle.rules.specs.Objects.{object}
+use Rattle.rules.specs.Reading.{Rec, rec, Res, took, fails, also, _then_, Reader, Body}
+use Rattle.rules.specs.Parts.{component, ended, element, sealed, repeat, toEnd, counted}
+use Rattle.rules.specs.Tables.{ownIdRow}
+pub use Rattle.rules.specs.Fills.{toFill, beforeFill, onlyFill}
+unfoldable pub use Rattle.rules.specs.Fills.{filled, fill}
+unfoldable pub use Rattle.rules.specs.Entries.{objects, namedPath, entryInside, entryBody}
+use Rattle.rules.specs.FileLayouts as filing
+use Rattle.rules.specs.Layout.{bodyOf}
+use Rattle.rules.specs.Layouts as layouts
 
 -- a path entry of EF.OD: its tag, and the path that it names
 pub record Name : Type 0 where
@@ -63,66 +67,24 @@ equal (x ∷ l) [] = false
 equal (x ∷ l) (y ∷ m) = eqb x y && equal l m
 
 module _ (s : List ℕ) where
-  -- "a first byte 00 or FF where an element would start begins the fill"
-  abbrev pub toFill : ℕ → ℕ → Bool
-  toFill end at = ltb at end && not (eqb (getD s at 0) 0 || eqb (getD s at 0) 0xff)
+  abbrev pub ciaBody : Body
+  ciaBody = bodyOf layouts.info s
 
-  unfoldable pub filled : ℕ → ℕ → ℕ → ℕ → Res
-  filled b zero end at = took [] [] at
-  filled b (suc g) end at = choose (eqb (getD s at 0) b) (λ _. filled b g end (at + 1)) (λ _. fails FillDiffers at)
+  abbrev pub ciaElement : Reader
+  ciaElement = beforeFill s (component s 0x30 Required ciaBody)
 
-  -- "all bytes to the end must equal it"; "fill byte, 2-byte count"
-  unfoldable pub fill : ℕ → Reader
-  fill kind end at =
-      choose (ltb at end)
-      (λ _. andThen (filled (getD s at 0) (end - at) end at) (λ n. took (rec kind (getD s at 0 ∷ le16 (end - at)) ∷ []) [] n))
-      (λ _. took [] [] at)
+  abbrev pub ciaFill : Reader
+  ciaFill = onlyFill s 0x0108
 
-  -- "CIAInfo, SEQUENCE 30: .. rest 0106"
-  unfoldable pub ciaBody : Body
-  ciaBody = inside (components s ciaRows then rest s 0x0106 (keptOut ciaRows))
+  abbrev pub cia : Reader
+  cia = layouts.cia .read s 0
 
-  -- "CIAInfo's file has just one element: none, even before fill, is 5 at the file's end, before 11"
-  unfoldable pub ciaElement : Reader
-  ciaElement end at = choose (toFill end at) (λ _. component s 0x30 Required ciaBody end at) (λ _. fails Missing end)
-
-  -- "a second is 3"; "CIAInfo's fill, 0108"
-  unfoldable pub ciaFill : Reader
-  ciaFill end at = choose (toFill end at) (λ _. surplus at (header s at end)) (λ _. fill 0x0108 end at)
-
-  unfoldable pub cia : Reader
-  cia = ciaElement then ciaFill
-
-  -- objects up to the end of a list, or up to the fill of a file, after k objects
-  unfoldable pub objects : (ℕ → ℕ → Bool) → ℕ → ℕ → Reader
-  objects more entry k end at = repeat more (object s entry) (end - at) k end at
-
-  -- "An EF.OD path holds one OCTET STRING of 1 to 64 bytes and nothing more (house)"; "0110 with entry tag, then 00 and path bytes"
-  unfoldable pub namedPath : ℕ → Body
-  namedPath entry at a e =
-      choose (leb 1 (e - a) && leb (e - a) 64) (λ _. took (rec 0x0110 (entry ∷ 0 ∷ slice a e s) ∷ []) [] e) (λ _. fails BadSize at)
-
-  -- "Inside is a Path 30 or objects A0"; "or 01 and its objects follow"
-  unfoldable pub entryInside : ℕ → ℕ → ℕ → Body
-  entryInside entry k t at a e =
-      choose (eqb t 0x30) (λ _. (component s 0x04 Required (namedPath entry) then ended s) e a)
-      (λ _. choose (eqb t 0xa0) (λ _. also (rec 0x0110 (entry ∷ 1 ∷ []) ∷ []) [] (objects toEnd entry k e a))
-      (λ _. fails NotDue at))
-
-  -- "entries A0 to A8 .. Any other context-specific tag: 0110 with first tag byte, 02, the sealed element"
-  unfoldable pub entryBody : ℕ → ℕ → Body
-  entryBody k t at a e =
-      choose (leb 0xa0 t && leb t 0xa8) (λ _. (element s (entryInside t k) then ended s) e a)
-      (λ _. choose (leb 0x80 t && leb t 0xbf) (λ _. sealed s 0x0110 (t ∷ 2 ∷ []) t at a e)
-      (λ _. fails NotDue at))
-
-  -- "EF.OD: entries .. Then fill, 0107"
+  -- EF.OD, and a directory file after k objects
   unfoldable pub od : Reader
-  od = (λ end at. repeat toFill (λ k. element s (entryBody k)) (end - at) 0 end at) then fill 0x0107
+  od = filing.od .read s 0
 
-  -- "for each path entry 0118, its objects, its fill"
   unfoldable pub directory : ℕ → ℕ → Reader
-  directory entry k = (λ end at. also (rec 0x0118 [] ∷ []) [] (objects toFill entry k end at)) then fill 0x0107
+  directory entry k = filing.directory entry .read s k
 
   abbrev pub two : ℕ → ℕ
   two at = getD s at 0 + 256 * getD s (at + 1) 0

@@ -11,7 +11,7 @@ use Rattle.elements.specs.Choice.{choose}
 use Rattle.elements.specs.declared.fault.Fault.{Fault}
 use Rattle.rules.specs.Reading.{Rec, Res, took, fails, also, Reader}
 use Rattle.rules.specs.Parts.{repeat, counted}
-use Rattle.rules.specs.Render.{Renderer}
+use Rattle.rules.specs.Rendering.{Renderer}
 use Rattle.rules.specs.Laws.{Look, avoids, Ok, refuses, takes, and-left, and-right}
 use Rattle.rules.specs.PartLaws.{begins-hard}
 use Rattle.rules.specs.RepeatLaws.{repeats, paid}

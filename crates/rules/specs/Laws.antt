@@ -14,19 +14,8 @@ use Rattle.elements.specs.declared.fault.Fault.{Fault}
 use Rattle.elements.specs.ChoiceLaws.{by-choose}
 use Rattle.elements.specs.Sealed.{among}
 use Rattle.rules.specs.Reading.{Rec, Res, took, fails, also, andThen, _then_, Reader, Body}
-use Rattle.rules.specs.Render.{gives, Renderer, _next_}
-
--- the kinds that a part's records may begin with, whether it may have none, the kinds that may not follow it, whether it always ends
--- with its container, and how many bytes of book it may have beyond four for each byte read
-pub record Look : Type 0 where
-  pub first : List ℕ
-  pub empty : Bool
-  pub stop : List ℕ
-  pub full : Bool
-  pub credit : ℕ
-
-abbrev pub look : List ℕ → Bool → List ℕ → Bool → ℕ → Look
-look f e t u c = record { first = f; empty = e; stop = t; full = u; credit = c }
+use Rattle.rules.specs.Rendering.{gives, Renderer, _next_}
+pub use Rattle.rules.specs.Looks.{Look, look, onlyIf, seqLook}
 
 -- records that do not begin with one of the kinds
 abbrev pub Fresh : List ℕ → List Rec → Type 0
@@ -131,18 +120,11 @@ laid-append n [] cs h g = g
 laid-append n (b ∷ bs) cs h g = (h .0, h .1, laid-append n bs cs (h .2) g)
 
 -- one part after another
-abbrev pub onlyIf : Bool → List ℕ → List ℕ
-onlyIf true l = l
-onlyIf false l = []
-
-abbrev pub seqLook : Look → Look → Look
-seqLook L M = look (L .first ++ onlyIf (L .empty) (M .first)) (L .empty && M .empty) (M .stop ++ onlyIf (M .empty) (L .stop)) (M .full) (L .credit + M .credit)
-
 only : (b : Bool) (l : List ℕ) (rs : List Rec) → Fresh (onlyIf b l) rs → T b → Fresh l rs
 only true l rs f t = f
 only false l rs f t = absurd t
 
-among-more : (k : ℕ) (l m : List ℕ) → T (among k l) → T (among k (l ++ m))
+pub among-more : (k : ℕ) (l m : List ℕ) → T (among k l) → T (among k (l ++ m))
 among-more k [] m t = absurd t
 among-more k (x ∷ l) m t = go (eqb k x) (among-more k l m) t
   where
@@ -150,7 +132,7 @@ among-more k (x ∷ l) m t = go (eqb k x) (among-more k l m) t
     go true ih t = tt
     go false ih t = ih t
 
-among-later : (k : ℕ) (l m : List ℕ) → T (among k m) → T (among k (l ++ m))
+pub among-later : (k : ℕ) (l m : List ℕ) → T (among k m) → T (among k (l ++ m))
 among-later k [] m t = t
 among-later k (x ∷ l) m t = go (eqb k x) (among-later k l m t)
   where

@@ -21,7 +21,7 @@ use Rattle.rules.specs.declared.table.Need.the-variants.{Required, Optio
 use Rattle.elements.specs.Sealed.{among, sealedRun, constructed}
 use Rattle.rules.specs.Parts.{absent, due, surplus, whatever, component, ended, element, keep, rest, sealed}
 use Rattle.elements.specs.Length.{wrap}
-use Rattle.rules.specs.Render.{gives, Renderer, when, either, within, plain, rKeep}
+use Rattle.rules.specs.Rendering.{gives, Renderer, when, either, within, plain, rKeep}
 use Rattle.rules.specs.Laws.{Look, look, Fresh, Begins, none, some, avoids, Facts, Ok, refuses, takes, Law, BodyLaw, by-test, and-left, and-right, fresh-left, fresh-right, avoids-among}
 use Rattle.elements.specs.declared.answer.Run.{Run}
 use Rattle.elements.specs.declared.answer.Run.the-variants.{Ends, Refused}
@@ -29,25 +29,7 @@ use Rattle.elements.specs.Encodings.{Nested, over, plain as plain-one, deep}
 use Rattle.elements.specs.HeaderLaws.{header-in, header-complete}
 use Rattle.elements.specs.SealedLaws.{sealed-sound, sealed-refuses}
 use Rattle.rules.specs.HeadLaws.{low, HeadOk, badHead, goodHead, header-ok}
-
--- looks
-abbrev pub isOptional : Need → Bool
-isOptional Required = false
-isOptional Optional = true
-isOptional (Default d) = true
-
--- what stands in an element, and an element that is offered by the kinds that it begins with
-abbrev pub elemLook : Look → Look
-elemLook L = look (L .first) (L .empty) (L .stop) false 0
-
-abbrev pub offerLook : Need → Look → Look
-offerLook n L = look (L .first) (isOptional n) (L .first ++ L .stop) false 0
-
-abbrev pub fullLook : Look → Look
-fullLook L = look (L .first) (L .empty) (L .stop) true (L .credit)
-
-abbrev pub restLook : ℕ → Look
-restLook kind = look (kind ∷ []) true (kind ∷ []) true 0
+pub use Rattle.rules.specs.Looks.{isOptional, elemLook, offerLook, fullLook, restLook}
 
 -- an element at a place, its header read
 abbrev pub ElemLaw : List ℕ → (ℕ → Body) → Renderer → Look → Type 0
@@ -278,17 +260,3 @@ module _ (s : List ℕ) (bytes : (i : ℕ) → getD s i 0 < 256) where
       some-rest u (Ends n) q =
           let f = when-facts Optional tt (raw kind end at end t (two-bytes u l (sealed-sound 16 s tags at end bytes h l q)) (le-refl end) l) in
           takes (record { low = f .low; high = f .high; round = λ rs g. f .round rs g; begins = f .begins; closes = λ _. refl; bound = f .bound; laid = f .laid })
-
-  -- a data container's class: sealed contents, present even when empty
-  pub contents-kept : (kind : ℕ) (r : ℕ → ℕ → Run) → T (ltb kind 65536) → ((e a : ℕ) → a ≤ e → e ≤ length s → Placed (length s) (r e a)) → BodyLaw s (λ at a e. keep (rec kind (slice a e s) ∷ []) e (r e a)) (rKeep kind) (look (kind ∷ []) false (kind ∷ []) true 8)
-  unfolding rKeep
-  contents-kept kind r t z at a e h i l =
-      kept (when (kind ∷ []) plain) (look (kind ∷ []) false (kind ∷ []) true 8) (rec kind (slice a e s) ∷ []) e a e (when-facts Required tt (record {
-        low = i;
-        high = le-refl e;
-        round = λ rs g. refl;
-        begins = begins-one kind (slice a e s) [] false;
-        closes = λ _. refl;
-        bound = omega (arith, length-slice a e s l);
-        laid = (t, omega (arith, length-slice a e s l), tt);
-      })) (z e a i l)

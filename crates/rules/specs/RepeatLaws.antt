@@ -13,13 +13,11 @@ use Rattle.elements.specs.declared.fault.Fault.{Fault}
 use Rattle.elements.specs.ChoiceLaws.{by-choose}
 use Rattle.rules.specs.Reading.{Rec, Res, took, fails, also, andThen, Reader}
 use Rattle.rules.specs.Parts.{repeat, counted, toEnd}
-use Rattle.rules.specs.Render.{gives, Renderer, _next_, when, rMany, rAll, rTimes}
+use Rattle.rules.specs.Rendering.{gives, Renderer, _next_, when, rMany, rAll, rTimes}
 use Rattle.elements.specs.Lists.{join}
 use Rattle.rules.specs.Laws.{Look, look, Fresh, Begins, none, some, avoids, size, Facts, Ok, refuses, takes, Law, and-left, and-right, fresh-left, fresh-right, size-append, laid-append, begins-fresh}
 use Rattle.rules.specs.PartLaws.{when-none, when-some, begins-hard, no-facts}
-
-abbrev pub manyLook : Bool → Look → Look
-manyLook u L = look (L .first) true (L .first ++ L .stop) u 0
+pub use Rattle.rules.specs.Looks.{manyLook}
 
 -- an item has records, what may not follow it does not begin one, and it pays for itself
 abbrev pub repeats : Look → Bool

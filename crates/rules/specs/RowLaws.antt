@@ -11,19 +11,13 @@ use lib.Dec.{ltb, T, ltb→lt}
 use Rattle.rules.specs.Reading.{rec}
 use Rattle.rules.specs.declared.table.Row.{Row}
 use Rattle.rules.specs.Parts.{Val, valued, rowBody, components}
-use Rattle.rules.specs.Render.{gives, from, unvalue, rRow, rRows}
+use Rattle.rules.specs.Rendering.{gives, from, unvalue, rRow, rRows}
 use Rattle.elements.specs.Integer.{most}
-use Rattle.rules.specs.Laws.{Look, look, avoids, Ok, refuses, takes, Law, and-left, and-right, seqLook, seq}
+use Rattle.rules.specs.Laws.{avoids, Ok, refuses, takes, Law, and-left, and-right, seq}
 use Rattle.rules.specs.HeadLaws.{low}
-use Rattle.rules.specs.PartLaws.{offerLook, offered, begins-one, no-facts}
+use Rattle.rules.specs.PartLaws.{offered, begins-one, no-facts}
 use Rattle.rules.specs.ValueLaws.{ValOk, val, no-val, judged-ok, bytes-slice}
-
-abbrev pub rowLook : Row → Look
-rowLook r = look (r .kind ∷ []) false [] true 8
-
-abbrev pub rowsLook : List Row → Look
-rowsLook [] = look [] true [] false 0
-rowsLook (r ∷ rs) = seqLook (offerLook (r .need) (rowLook r)) (rowsLook rs)
+pub use Rattle.rules.specs.Looks.{rowLook, rowsLook}
 
 -- tags of one byte, numbers that fit, and no kind twice
 abbrev pub rowsFit : List Row → Bool

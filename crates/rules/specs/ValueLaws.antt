@@ -24,7 +24,7 @@ use Rattle.elements.specs.ValueLaws.{value-sound}
 use Rattle.rules.specs.declared.table.Row.{Row}
 use Rattle.rules.specs.Reading.{number}
 use Rattle.rules.specs.Parts.{Val, good, wrong, isDefault, inBounds, payload, judged}
-use Rattle.rules.specs.Render.{unvalue}
+use Rattle.rules.specs.Rendering.{unvalue}
 
 bytes-take : (n : ℕ) (l : List ℕ) → Bytes l → Bytes (take n l)
 bytes-take zero l b i = omega arith

@@ -16,6 +16,7 @@ use Rattle.rules.specs.Book.{recordsFrom, nextIs}
 use Rattle.writer.specs.Making.{Makes, Closed}
 use Rattle.writer.proofs.MadeLaws.{made-left, within-short, within-long, within-took, when-yes, when-no}
 use Rattle.writer.proofs.ManyLaws.{Fewer, next-fewer, from-fewer, keep-fewer, times-fewer, three-first, three-second, three-third, Repeating, repeating-next}
+use Rattle.rules.specs.Layouts as layouts
 
 -- what stands in a rule, and the rules in their element
 abbrev Contents : Renderer
@@ -35,7 +36,7 @@ as-fewer q f Or p rs = times-fewer (count p) q f rs
 as-fewer q f Other p rs = omega arith
 
 condition-fewer : (l : ℕ) → Fewer (rCondition l)
-unfolding rCondition rConditionOf
+unfolding layouts.condition rConditionOf
 condition-fewer zero rs = omega arith
 condition-fewer (suc l) rs = from-fewer (rConditionOf (λ rs. rCondition l rs)) (λ k p. as-fewer (λ rs. rCondition l rs) (condition-fewer l) (sortBy kindOf k) p) rs
 
@@ -45,7 +46,7 @@ first-taken [] e = absurd (let z : _≡_ {A = ℕ} 0 1 = cc in omega arith)
 first-taken (r ∷ rs) e = rw e (omega arith)
 
 rule-taken : (rs : List Rec) → nextIs 0x0125 rs ≡ true → length (rRule rs .left) < length rs
-unfolding rRule
+unfolding layouts.rule
 rule-taken rs e = omega (arith, first-taken rs e, next-fewer (rCondition 8) (rKeep 0x012c) (condition-fewer 8) (keep-fewer 0x012c) (rRows ruleRows rs .left))
 
 -- ---- inside a rule
@@ -63,16 +64,16 @@ module _ {b a c : List ℕ} {i o : ℕ} {r : Made} (m : Makes b a c i o (rRows r
 -- ---- a rule
 module _ (b : List ℕ) (i : ℕ) {a : List ℕ} {o : ℕ} where
   pub rule-short : length a < o + 2 → Makes b a a i o (rRule (recordsFrom b i)) Long
-  unfolding rRule
+  unfolding layouts.rule
   rule-short h = within-short 0x30 Contents (recordsFrom b i) h
 
   module _ {c : List ℕ} {r : Made} (m : Makes b a c i (o + 2) (Contents (recordsFrom b i)) r) where
     pub rule-long : r ≡ Long → Makes b a c i o (rRule (recordsFrom b i)) Long
-    unfolding rRule
+    unfolding layouts.rule
     rule-long z = within-long 0x30 Contents (recordsFrom b i) m z
 
     pub rule-took : {d : List ℕ} {s : Made} {n q : ℕ} → r ≡ Took n q → Closed c d o 0x30 n q s → Makes b a d i o (rRule (recordsFrom b i)) s
-    unfolding rRule
+    unfolding layouts.rule
     rule-took z k = within-took 0x30 Contents (recordsFrom b i) m z k
 
 -- ---- rules
@@ -105,14 +106,14 @@ module _ (b : List ℕ) (i : ℕ) {y : Bool} (e : y ≡ nextIs 0x0125 (recordsFr
 -- ---- common attributes
 module _ {b a c : List ℕ} {i o : ℕ} {r : Made} (m : Makes b a c i o (rRows commonRows (recordsFrom b i)) r) where
   pub common-first : r ≡ Long → Makes b a c i o (rCommon (recordsFrom b i)) Long
-  unfolding rCommon
+  unfolding layouts.common layouts.rules layouts.rule
   common-first z = three-first (rRows commonRows) (when (mark ruleRows) Rules) (rKeep 0x012f) m z
 
   module _ {n t : ℕ} (z : r ≡ Took n t) {d : List ℕ} {u : Made} (k : Makes b c d n t (when (mark ruleRows) Rules (recordsFrom b n)) u) where
     pub common-second : u ≡ Long → Makes b a d i o (rCommon (recordsFrom b i)) Long
-    unfolding rCommon
+    unfolding layouts.common layouts.rules layouts.rule
     common-second w = three-second (rRows commonRows) (when (mark ruleRows) Rules) (rKeep 0x012f) m z k w
 
     pub common-third : {e : List ℕ} {x y : ℕ} {v : Made} → u ≡ Took x y → Makes b d e x y (rKeep 0x012f (recordsFrom b x)) v → Makes b a e i o (rCommon (recordsFrom b i)) v
-    unfolding rCommon
+    unfolding layouts.common layouts.rules layouts.rule
     common-third w l = three-third (rRows commonRows) (when (mark ruleRows) Rules) (rKeep 0x012f) m z k w l

@@ -21,6 +21,7 @@ use Rattle.rules.specs.Book.{recordsFrom, Ends}
 use Rattle.writer.specs.Making.{Makes, Closed}
 use Rattle.rules.specs.BookLaws.{from-few}
 use Rattle.writer.proofs.MadeLaws.{makes-none, makes-as, makes-same, made-high, made-room, then-long, then-took, within-short, within-long, within-took, from-some, puts-took, puts-long}
+use Rattle.rules.specs.Layouts as layouts
 
 -- ---- the sort that has a kind
 module _ (k : ℕ) where
@@ -73,17 +74,17 @@ abbrev Inner : ℕ → Renderer
 Inner l = λ rs. rCondition l rs
 
 by-level : (levels : ℕ) (rs : List Rec) → (levels ≡ 0 → ⊥) → rCondition levels rs ≡ from (rConditionOf (Inner (levels - 1))) rs
-unfolding rCondition
+unfolding layouts.condition
 by-level zero rs n = absurd (n refl)
 by-level (suc l) rs n = let u : suc l - 1 ≡ l = omega arith in rw u refl
 
 none-deep : (levels : ℕ) (rs : List Rec) → levels ≡ 0 → rCondition levels rs ≡ gives [] rs
-unfolding rCondition
+unfolding layouts.condition
 none-deep zero rs z = refl
 none-deep (suc l) rs z = absurd (omega arith)
 
 none-left : (levels : ℕ) → rCondition levels [] ≡ gives [] []
-unfolding rCondition
+unfolding layouts.condition
 none-left zero = refl
 none-left (suc l) = refl
 

@@ -15,6 +15,7 @@ use Rattle.rules.specs.Book.{recordsFrom, nextIs}
 use Rattle.writer.specs.Making.{Makes}
 use Rattle.writer.proofs.MadeLaws.{makes-as, then-long, then-took}
 use Rattle.writer.proofs.ManyLaws.{three-first, three-second, three-third}
+use Rattle.rules.specs.Layouts as layouts
 
 -- one way or the other by the next record
 module _ (k : ℕ) (q p : Renderer) (b : List ℕ) (i : ℕ) {t : Bool} (e : t ≡ nextIs k (recordsFrom b i)) where
@@ -34,63 +35,63 @@ module _ (k : ℕ) (q p : Renderer) (b : List ℕ) (i : ℕ) {t : Bool} (e : t �
 
 -- a Path
 pub path-made : {b a c : List ℕ} {i o : ℕ} {r : Made} → Makes b a c i o (rRows pathRows (recordsFrom b i)) r → Makes b a c i o (rPath (recordsFrom b i)) r
-unfolding rPath
+unfolding layouts.path
 path-made m = m
 
 -- a private key
 module _ {b a c : List ℕ} {i o : ℕ} {r : Made} (m : Makes b a c i o (when (mark pathRows) (within 0x30 rPath) (recordsFrom b i)) r) where
   pub private-first : r ≡ Long → Makes b a c i o (rPrivate (recordsFrom b i)) Long
-  unfolding rPrivate
+  unfolding layouts.privateKey layouts.path
   private-first z = three-first (when (mark pathRows) (within 0x30 rPath)) (rRows privateRows) (rKeep 0x018f) m z
 
   module _ {d : List ℕ} {n t : ℕ} (z : r ≡ Took n t) {r1 : Made} (k : Makes b c d n t (rRows privateRows (recordsFrom b n)) r1) where
     pub private-second : r1 ≡ Long → Makes b a d i o (rPrivate (recordsFrom b i)) Long
-    unfolding rPrivate
+    unfolding layouts.privateKey layouts.path
     private-second z1 = three-second (when (mark pathRows) (within 0x30 rPath)) (rRows privateRows) (rKeep 0x018f) m z k z1
 
     pub private-third : {e : List ℕ} {l u : ℕ} {r2 : Made} → r1 ≡ Took l u → Makes b d e l u (rKeep 0x018f (recordsFrom b l)) r2 → Makes b a e i o (rPrivate (recordsFrom b i)) r2
-    unfolding rPrivate
+    unfolding layouts.privateKey layouts.path
     private-third z1 x = three-third (when (mark pathRows) (within 0x30 rPath)) (rRows privateRows) (rKeep 0x018f) m z k z1 x
 
 -- a certificate
 module _ {b a c : List ℕ} {i o : ℕ} {r : Made} (m : Makes b a c i o (either (mark pathRows) (within 0x30 rPath) plain (recordsFrom b i)) r) where
   pub certificate-first : r ≡ Long → Makes b a c i o (rCertificate (recordsFrom b i)) Long
-  unfolding rCertificate
+  unfolding layouts.certificate layouts.certificateValue layouts.path
   certificate-first z = then-long (either (mark pathRows) (within 0x30 rPath) plain) (rKeep 0x018f) (recordsFrom b i) m z
 
   pub certificate-second : {d : List ℕ} {n t : ℕ} {r1 : Made} → r ≡ Took n t → Makes b c d n t (rKeep 0x018f (recordsFrom b n)) r1 → Makes b a d i o (rCertificate (recordsFrom b i)) r1
-  unfolding rCertificate
+  unfolding layouts.certificate layouts.certificateValue layouts.path
   certificate-second z x = then-took (either (mark pathRows) (within 0x30 rPath) plain) (rKeep 0x018f) (recordsFrom b i) m z x
 
 -- a password
 module _ {b a c : List ℕ} {i o : ℕ} {r : Made} (m : Makes b a c i o (rRows passwordRows (recordsFrom b i)) r) where
   pub password-first : r ≡ Long → Makes b a c i o (rPassword (recordsFrom b i)) Long
-  unfolding rPassword
+  unfolding layouts.password layouts.path
   password-first z = three-first (rRows passwordRows) (when (mark pathRows) (within 0x30 rPath)) (rKeep 0x019f) m z
 
   module _ {d : List ℕ} {n t : ℕ} (z : r ≡ Took n t) {r1 : Made} (k : Makes b c d n t (when (mark pathRows) (within 0x30 rPath) (recordsFrom b n)) r1) where
     pub password-second : r1 ≡ Long → Makes b a d i o (rPassword (recordsFrom b i)) Long
-    unfolding rPassword
+    unfolding layouts.password layouts.path
     password-second z1 = three-second (rRows passwordRows) (when (mark pathRows) (within 0x30 rPath)) (rKeep 0x019f) m z k z1
 
     pub password-third : {e : List ℕ} {l u : ℕ} {r2 : Made} → r1 ≡ Took l u → Makes b d e l u (rKeep 0x019f (recordsFrom b l)) r2 → Makes b a e i o (rPassword (recordsFrom b i)) r2
-    unfolding rPassword
+    unfolding layouts.password layouts.path
     password-third z1 x = three-third (rRows passwordRows) (when (mark pathRows) (within 0x30 rPath)) (rKeep 0x019f) m z k z1 x
 
 -- the one element that a type is
 module _ {b a c : List ℕ} {i o : ℕ} {r : Made} {t : ObjectType} where
   pub kind-private : t ≡ PrivateKey → Makes b a c i o (within 0x30 rPrivate (recordsFrom b i)) r → Makes b a c i o (rType t (recordsFrom b i)) r
-  unfolding rType
+  unfolding layouts.typed
   kind-private z m = rw z m
 
   pub kind-certificate : t ≡ Certificate → Makes b a c i o (within 0x30 rCertificate (recordsFrom b i)) r → Makes b a c i o (rType t (recordsFrom b i)) r
-  unfolding rType
+  unfolding layouts.typed
   kind-certificate z m = rw z m
 
   pub kind-password : t ≡ Password → Makes b a c i o (within 0x30 rPassword (recordsFrom b i)) r → Makes b a c i o (rType t (recordsFrom b i)) r
-  unfolding rType
+  unfolding layouts.typed
   kind-password z m = rw z m
 
   pub kind-sealed : t ≡ Sealed → Makes b a c i o (rKeep 0x01a0 (recordsFrom b i)) r → Makes b a c i o (rType t (recordsFrom b i)) r
-  unfolding rType
+  unfolding layouts.typed
   kind-sealed z m = rw z m

@@ -17,6 +17,7 @@ use Rattle.rules.specs.Book.{recordsFrom, nextIs, Ends}
 use Rattle.writer.specs.Making.{Makes, Onward}
 use Rattle.writer.proofs.MadeLaws.{then-long, then-took, from-some, made-steps, onward-one}
 use Rattle.writer.proofs.ManyLaws.{three-first, three-second, three-third, Repeating, repeating-all, repeating-long}
+use Rattle.rules.specs.Layouts as layouts
 
 -- the components of a sequence and its rest
 module _ (s : Sequence) (kind : ℕ) {b a c : List ℕ} {i o : ℕ} {r : Made} (m : Makes b a c i o (rRows (rowsOf s) (recordsFrom b i)) r) where
@@ -29,19 +30,19 @@ module _ (s : Sequence) (kind : ℕ) {b a c : List ℕ} {i o : ℕ} {r : Made} (
 -- a class
 module _ {b a c : List ℕ} {i o : ℕ} {r : Made} {x : Class} where
   pub class-keys : x ≡ Keys → Makes b a c i o ((rRows keyRows next rKeep 0x013f) (recordsFrom b i)) r → Makes b a c i o (rClass x (recordsFrom b i)) r
-  unfolding rClass
+  unfolding layouts.class
   class-keys z m = rw z m
 
   pub class-certificates : x ≡ Certificates → Makes b a c i o ((rRows certificateRows next rKeep 0x014f) (recordsFrom b i)) r → Makes b a c i o (rClass x (recordsFrom b i)) r
-  unfolding rClass
+  unfolding layouts.class
   class-certificates z m = rw z m
 
   pub class-authentications : x ≡ Authentications → Makes b a c i o ((rRows authenticationRows next rKeep 0x015f) (recordsFrom b i)) r → Makes b a c i o (rClass x (recordsFrom b i)) r
-  unfolding rClass
+  unfolding layouts.class
   class-authentications z m = rw z m
 
   pub class-containers : x ≡ Containers → Makes b a c i o (rKeep 0x0160 (recordsFrom b i)) r → Makes b a c i o (rClass x (recordsFrom b i)) r
-  unfolding rClass
+  unfolding layouts.class
   class-containers z m = rw z m
 
 -- common, class and subclass
@@ -68,11 +69,11 @@ module _ (entry : ℕ) {b a c : List ℕ} {i o : ℕ} {r : Made} (m : Makes b a 
 -- the contents of an object
 module _ (entry tag : ℕ) {b a c : List ℕ} {i o : ℕ} {r : Made} (m : Makes b a c i o (attributes entry (recordsFrom b i)) r) where
   pub contents-first : r ≡ Long → Makes b a c i o (rContents entry tag (recordsFrom b i)) Long
-  unfolding rContents
+  unfolding layouts.contents layouts.subclass
   contents-first z = then-long (attributes entry) (within 0xa1 (rType (typeOf entry tag))) (recordsFrom b i) m z
 
   pub contents-second : {d : List ℕ} {n t : ℕ} {y : ObjectType} {r1 : Made} → r ≡ Took n t → y ≡ typeOf entry tag → Makes b c d n t (within 0xa1 (rType y) (recordsFrom b n)) r1 → Makes b a d i o (rContents entry tag (recordsFrom b i)) r1
-  unfolding rContents
+  unfolding layouts.contents layouts.subclass
   contents-second z e x = then-took (attributes entry) (within 0xa1 (rType (typeOf entry tag))) (recordsFrom b i) m z (rw e at x)
 
 -- an object

@@ -1,12 +1,13 @@
 use Rattle.writer.proofs.MadeLaws.{then-long, then-took, made-high, made-room, makes-same}
-use Rattle.rules.specs.Render.{_next_, within, rRows, rKeep, rFill, rCia}
+use Rattle.rules.specs.Render.{_next_, within, rRows, rKeep, rFill}
 use Rattle.rules.specs.Tables.{ciaRows}
 use borrow.Author.Needs.{needs}
 use Rattle.writer.proofs.make_entry.make_cia.Statement.{statement}
 use Rattle.writer.proofs.make_entry.make_cia.Tie as tie
+use Rattle.rules.specs.Layouts as layouts
 
 pub make-cia-spec : {M : Type 1} → statement M
-unfolding rCia
+unfolding layouts.cia layouts.info
 make-cia-spec =
     tie.close (tie.spec
     (λ c κs. search needs)  -- make-info-element-requires

@@ -5,7 +5,7 @@ use Rattle.writer.proofs.make_entry.make_directory.Statement.{statement
 use Rattle.writer.proofs.make_entry.make_directory.Tie as tie
 
 pub make-directory-spec : {M : Type 1} → statement M
-unfolding rDirectory
+unfolding rDirectory rObjects
 make-directory-spec =
     tie.close (tie.spec
     (λ c κs. search needs)  -- make-behind-requires

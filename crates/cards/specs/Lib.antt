@@ -1,0 +1,5 @@
+pub mod Card
+pub mod CardKindLaws
+pub mod CardFileLaws
+pub mod CardDumpLaws
+pub mod CardExample

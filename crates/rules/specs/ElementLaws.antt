@@ -1,0 +1,161 @@
+-- An element as data, and the header that is read of it.
+use Prim.Native.Nat.{ℕ, _+_, _-_, _≤_}
+use mathlib.Core.List.{List, [], _∷_, _++_, append-assoc}
+use mathlib.Core.Bool.{Bool, true, false}
+use mathlib.Core.Path.{_≡_, refl, sym, ap, _∙_}
+use native.Mathlib.Omega.{arith}
+use lib.ListN.{length, take, drop, length-append}
+use lib.Seq.{slice, slice-empty, length-slice, take-at, drop-at}
+use lib.Dec.{ltb}
+use Rattle.elements.specs.declared.answer.Head.the-variants.{At}
+use Rattle.elements.specs.declared.answer.Run.the-variants.{Ends}
+use Rattle.elements.specs.Lists.{Bytes, join, Begins, begins}
+use Rattle.elements.specs.Length.{shortest, sevens, tagBytes}
+use Rattle.elements.specs.Encodings.{Der, Nested}
+use Rattle.elements.specs.Encodings as encodings
+use Rattle.elements.specs.Header.{header}
+use Rattle.elements.specs.HeaderLaws.{header-in, header-sound, header-complete}
+use Rattle.elements.specs.Sealed.{sealedRun}
+use Rattle.elements.specs.SealedLaws.{sealed-sound, sealed-complete}
+use Rattle.rules.specs.Grammar.{Element, elementBytes, firstOf, IsElement, SealedRun, over, plain, deep}
+
+-- a part that is known, and what is left of its container
+pub record Parted (s : List ℕ) (at end : ℕ) (p w : List ℕ) : Type 0 where
+  pub high : at + length p ≤ end
+  pub this : slice at (at + length p) s ≡ p
+  pub left : slice (at + length p) end s ≡ w
+
+pub parted : (s : List ℕ) (at end : ℕ) (p w : List ℕ) → at ≤ end → end ≤ length s → slice at end s ≡ p ++ w → Parted s at end p w
+parted s at end p w h l e =
+    let n : end - at ≡ length p + length w = sym (length-slice at end s l) ∙ ap length e ∙ length-append p w in
+    let j : slice at (at + length p) s ++ slice (at + length p) end s ≡ p ++ w = join at (at + length p) end s (omega arith) (omega arith) ∙ e in
+    let k : length (slice at (at + length p) s) ≡ length p = omega (arith, length-slice at (at + length p) s (omega arith)) in
+    record {
+      high = omega arith;
+      this = sym (take-at (slice at (at + length p) s) (slice (at + length p) end s) (length p) k) ∙ ap (take (length p)) j ∙ take-at p w (length p) refl;
+      left = sym (drop-at (slice at (at + length p) s) (slice (at + length p) end s) (length p) k) ∙ ap (drop (length p)) j ∙ drop-at p w (length p) refl;
+    }
+
+-- nothing is left
+pub is-end : (s : List ℕ) (n end : ℕ) → n ≤ end → end ≤ length s → slice n end s ≡ [] → n ≡ end
+is-end s n end h l e = let z : end - n ≡ 0 = sym (length-slice n end s l) ∙ ap length e in omega arith
+
+-- a tag begins with its first byte
+pub record TagIs (x : Element) : Type 0 where
+  pub more : List ℕ
+  pub is : tagBytes (x .lead) (x .number) ≡ firstOf x ∷ more
+
+pub tag-is : (x : Element) → TagIs x
+unfolding tagBytes
+tag-is x = by-tag (ltb (x .number) 31) refl
+  where
+    by-tag : (b : Bool) → ltb (x .number) 31 ≡ b → TagIs x
+    by-tag true e = record { more = []; is = rw e refl }
+    by-tag false e = record { more = sevens (x .number); is = rw e refl }
+
+-- where the element x stands
+pub record Stands (s : List ℕ) (at end : ℕ) (x : Element) (a e : ℕ) : Type 0 where
+  pub is : header s at end ≡ At (firstOf x) a e
+  pub after : at + 2 ≤ a
+  pub order : a ≤ e
+  pub inside : e ≤ end
+  pub whole : slice at e s ≡ elementBytes x
+  pub within : slice a e s ≡ x .contents
+
+pub record Headed (s : List ℕ) (at end t a e : ℕ) : Type 0 where
+  pub x : Element
+  pub element : IsElement x
+  pub tag : firstOf x ≡ t
+  pub stands : Stands s at end x a e
+  pub split : slice at end s ≡ elementBytes x ++ slice e end s
+
+pub head-sound : (s : List ℕ) → Bytes s → (at end : ℕ) {t a e : ℕ} → end ≤ length s → header s at end ≡ At t a e → Headed s at end t a e
+unfolding elementBytes
+head-sound s bytes at end {t} {a} {e} l q =
+    let d : Der s at end t a e = header-sound s at end bytes l q in
+    let i : (at + 2 ≤ a) × (a ≤ e) × (e ≤ end) = header-in s at end q in
+    let x : Element = record { lead = d .lead; number = d .number; contents = slice a e s } in
+    let n : length (slice a e s) ≡ e - a = length-slice a e s (omega arith) in
+    let g = tag-is x in
+    let b : slice at a s ≡ firstOf x ∷ (g .more ++ shortest (e - a)) = d .bytes ∙ rw (g .is) refl in
+    let f : Begins s at a (firstOf x) (g .more ++ shortest (e - a)) = begins s at a (omega arith) b in
+    let z : firstOf x ≡ t = sym (f .first) ∙ sym (d .first) in
+    let w : slice at e s ≡ tagBytes (d .lead) (d .number) ++ shortest (length (slice a e s)) ++ slice a e s = sym (join at a e s (omega arith) (omega arith)) ∙ rw (d .bytes, n) refl in
+    record {
+      x = x;
+      element = record { lead-fits = d .lead-fits; number-fits = d .number-fits; some-tag = d .some };
+      tag = z;
+      stands = record { is = q ∙ rw z refl; after = i .0; order = i .1; inside = i .2; whole = w; within = refl };
+      split = sym (join at e end s (omega arith) (omega arith)) ∙ rw w refl;
+    }
+
+pub record Placed (s : List ℕ) (at end : ℕ) (x : Element) (w : List ℕ) : Type 0 where
+  pub a : ℕ
+  pub e : ℕ
+  pub stands : Stands s at end x a e
+  pub der : Der s at end (firstOf x) a e
+  pub left : slice e end s ≡ w
+
+pub head-complete : (s : List ℕ) → length s ≤ 32768 → (at end : ℕ) (x : Element) (w : List ℕ) → at ≤ end → end ≤ length s → IsElement x → slice at end s ≡ elementBytes x ++ w → Placed s at end x w
+unfolding elementBytes
+head-complete s small at end x w h l i q =
+    let n = length (x .contents) in
+    let p = tagBytes (x .lead) (x .number) ++ shortest n in
+    let q1 : slice at end s ≡ p ++ (x .contents ++ w) = q ∙ append-assoc p (x .contents) w in
+    let f = parted s at end p (x .contents ++ w) h l q1 in
+    let a = at + length p in
+    let g = parted s a end (x .contents) w (f .high) l (f .left) in
+    let e = a + n in
+    let ge : a + n ≤ end = g .high in
+    let m : e - a ≡ n = omega arith in
+    let k = tag-is x in
+    let b : slice at a s ≡ firstOf x ∷ (k .more ++ shortest n) = f .this ∙ rw (k .is) refl in
+    let v : Begins s at a (firstOf x) (k .more ++ shortest n) = begins s at a (omega (arith, f .high)) b in
+    let d : Der s at end (firstOf x) a e = record {
+      lead = x .lead;
+      number = x .number;
+      lead-fits = i .lead-fits;
+      number-fits = i .number-fits;
+      some = i .some-tag;
+      order = omega arith;
+      inside = ge;
+      short = omega arith;
+      first = sym (v .first);
+      bytes = rw m (f .this);
+    } in
+    let r : header s at end ≡ At (firstOf x) a e = header-complete s at end l d in
+    let y : (at + 2 ≤ a) × (a ≤ e) × (e ≤ end) = header-in s at end r in
+    record {
+      a = a;
+      e = e;
+      stands = record { is = r; after = y .0; order = y .1; inside = y .2; whole = sym (join at a e s (omega arith) (omega arith)) ∙ rw (f .this, g .this) refl; within = g .this };
+      der = d;
+      left = g .left;
+    }
+
+-- sealed runs
+nested-run : (s : List ℕ) → Bytes s → {l : ℕ} {out : List ℕ} {at end : ℕ} → end ≤ length s → Nested s l out at end → SealedRun l out (slice at end s)
+nested-run s bytes {at = at} {end = end} k (encodings.over e) = over {c = slice at end s} (rw e (slice-empty end s))
+nested-run s bytes {out = out} {at = at} {end = end} k (encodings.plain {b = b} {e = e} d m c n) =
+    let v = head-sound s bytes at end k (header-complete s at end k d) in
+    plain {out = out} (v .x) (slice e end s) (v .element) (rw (v .tag) m) (rw (v .tag) c) (nested-run s bytes k n) (v .split)
+nested-run s bytes {out = out} {at = at} {end = end} k (encodings.deep {b = b} {a = a} {e = e} d m c i n) =
+    let v = head-sound s bytes at end k (header-complete s at end k d) in
+    let z : a ≤ e = d .order in
+    deep {out = out} (v .x) (slice e end s) (v .element) (rw (v .tag) m) (rw (v .tag) c) (rw (v .stands .within) at (nested-run s bytes (omega (arith, d .inside)) i)) (nested-run s bytes k n) (v .split)
+
+run-nested : (s : List ℕ) → length s ≤ 32768 → {l : ℕ} {out c : List ℕ} → SealedRun l out c → (at end : ℕ) → at ≤ end → end ≤ length s → slice at end s ≡ c → Nested s l out at end
+run-nested s small (over z) at end h k q = encodings.over (is-end s at end h k (q ∙ z))
+run-nested s small (plain x w i m c n z) at end h k q =
+    let v = head-complete s small at end x w h k i (q ∙ z) in
+    encodings.plain (v .der) m c (run-nested s small n (v .e) end (v .stands .inside) k (v .left))
+run-nested s small (deep x w i m c j n z) at end h k q =
+    let v = head-complete s small at end x w h k i (q ∙ z) in
+    let g : v .e ≤ length s = omega (arith, v .stands .inside) in
+    encodings.deep (v .der) m c (run-nested s small j (v .a) (v .e) (v .stands .order) g (v .stands .within)) (run-nested s small n (v .e) end (v .stands .inside) k (v .left))
+
+pub run-sound : (s : List ℕ) → Bytes s → (l : ℕ) (out : List ℕ) (at end : ℕ) {i : ℕ} → at ≤ end → end ≤ length s → sealedRun l s out at end ≡ Ends i → SealedRun l out (slice at end s)
+run-sound s bytes l out at end h k q = nested-run s bytes k (sealed-sound l s out at end bytes h k q)
+
+pub run-complete : (s : List ℕ) → length s ≤ 32768 → (l : ℕ) (out : List ℕ) (at end : ℕ) → at ≤ end → end ≤ length s → SealedRun l out (slice at end s) → sealedRun l s out at end ≡ Ends end
+run-complete s small l out at end h k r = sealed-complete k (run-nested s small r at end h k refl)

@@ -1,0 +1,247 @@
+-- What a part of a card is, said without reading it: its contents as data, the bytes and the records of the book that they stand as, and what they must meet.
+use Prim.Native.Nat.{ℕ, zero, suc, _+_, _*_, _/_, _%_, _^_, _≤_, _<_}
+use mathlib.Core.Path.{_≡_}
+use mathlib.Core.List.{List, [], _∷_, _++_}
+use mathlib.Core.Bool.{Bool, true, false}
+use mathlib.Core.Logic.{_⊎_, inl, inr}
+use mathlib.Core.Option.{Option, none, some}
+use lib.ListN.{length, replicate}
+use lib.Dec.{ltb}
+use Rattle.elements.specs.declared.answer.Form.{Form}
+use Rattle.elements.specs.declared.answer.Form.the-variants as form
+use Rattle.elements.specs.Choice.{pick}
+use Rattle.elements.specs.Length.{shortest, tagBytes}
+use Rattle.elements.specs.Sealed.{among, constructed}
+use Rattle.elements.specs.Boolean.{booleanBytes}
+use Rattle.elements.specs.Integer.{integerBytes}
+use Rattle.elements.specs.Bits.{flagBytes}
+use Rattle.elements.specs.Encodings.{Scalars, utf8s, Moment}
+use Rattle.elements.specs.Put.{le16, le32}
+use Rattle.rules.specs.declared.table.Need.{Need}
+use Rattle.rules.specs.declared.table.Need.the-variants.{Required, Optional, Default}
+use Rattle.rules.specs.declared.table.Row.{Row}
+use Rattle.rules.specs.Reading.{Rec, rec}
+
+-- an element: class and constructed bit (the first byte's top three bits), the tag's number, the contents
+pub record Element : Type 0 where
+  pub lead : ℕ
+  pub number : ℕ
+  pub contents : List ℕ
+
+-- of a tag of one byte
+abbrev pub low : ℕ → List ℕ → Element
+low t c = record { lead = t / 32; number = t % 32; contents = c }
+
+-- "definite, shortest form"
+unfoldable pub elementBytes : Element → List ℕ
+elementBytes x = tagBytes (x .lead) (x .number) ++ shortest (length (x .contents)) ++ x .contents
+
+abbrev pub firstOf : Element → ℕ
+firstOf x = pick (ltb (x .number) 31) (x .lead * 32 + x .number) (x .lead * 32 + 31)
+
+-- "in at most three further bytes; tag 00 is no tag"
+pub record IsElement (x : Element) : Type 0 where
+  pub lead-fits : x .lead < 8
+  pub number-fits : x .number < 2097152
+  pub some-tag : x .lead ≡ 0 → x .number ≡ 0 → ⊥
+
+-- "A sealed part is checked for tags, lengths and exact nesting only": elements one after the other, none on this level with a tag kept out
+pub data SealedRun : ℕ → List ℕ → List ℕ → Type 0 where
+  over : {l : ℕ} {out c : List ℕ} → c ≡ [] → SealedRun l out c
+  plain : {l : ℕ} {out c : List ℕ} (x : Element) (w : List ℕ) → IsElement x → among (firstOf x) out ≡ false → constructed (firstOf x) ≡ false →
+      SealedRun (suc l) out w → c ≡ elementBytes x ++ w → SealedRun (suc l) out c
+  deep : {l : ℕ} {out c : List ℕ} (x : Element) (w : List ℕ) → IsElement x → among (firstOf x) out ≡ false → constructed (firstOf x) ≡ true →
+      SealedRun l [] (x .contents) → SealedRun (suc l) out w → c ≡ elementBytes x ++ w → SealedRun (suc l) out c
+
+-- "at most 16 deep (house, the outermost counts 1)": the contents of a sealed element
+abbrev pub SealedIn : Bool → List ℕ → Type 0
+SealedIn true c = SealedRun 15 [] c
+SealedIn false c = Unit {0}
+
+pub record Part : Type 1 where
+  pub Of : Type 0
+  pub bytes : Of → List ℕ
+  pub book : Of → List Rec
+  pub Meets : Of → Type 0
+
+-- a part that is one element
+pub record Item : Type 1 where
+  pub Of : Type 0
+  pub shape : Of → Element
+  pub book : Of → List Rec
+  pub Meets : Of → Type 0
+
+abbrev pub empty : Part
+empty = record { Of = Unit {0}; bytes = λ _. []; book = λ _. []; Meets = λ _. Unit {0} }
+
+abbrev pub _and_ : Part → Part → Part
+_and_ P Q = record {
+  Of = P .Of × Q .Of;
+  bytes = λ x. P .bytes (x .0) ++ Q .bytes (x .1);
+  book = λ x. P .book (x .0) ++ Q .book (x .1);
+  Meets = λ x. P .Meets (x .0) × Q .Meets (x .1);
+}
+
+abbrev pub _or_ : Item → Item → Item
+_or_ I J = record {
+  Of = I .Of ⊎ J .Of;
+  shape = λ x. elim x [ inl i ↦ I .shape i | inr j ↦ J .shape j ];
+  book = λ x. elim x [ inl i ↦ I .book i | inr j ↦ J .book j ];
+  Meets = λ x. elim x [ inl i ↦ I .Meets i | inr j ↦ J .Meets j ];
+}
+
+abbrev pub one : Item → Part
+one I = record { Of = I .Of; bytes = λ i. elementBytes (I .shape i); book = I .book; Meets = I .Meets }
+
+abbrev pub optional : Item → Part
+optional I = record {
+  Of = Option (I .Of);
+  bytes = λ x. elim x [ none ↦ [] | some i ↦ elementBytes (I .shape i) ];
+  book = λ x. elim x [ none ↦ [] | some i ↦ I .book i ];
+  Meets = λ x. elim x [ none ↦ Unit {0} | some i ↦ I .Meets i ];
+}
+
+abbrev pub slot : Need → Item → Part
+slot Required I = one I
+slot Optional I = optional I
+slot (Default d) I = optional I
+
+abbrev pub tagged : ℕ → Part → Item
+tagged t P = record { Of = P .Of; shape = λ x. low t (P .bytes x); book = P .book; Meets = P .Meets }
+
+-- what is more to meet
+abbrev pub with : (P : Part) → (P .Of → Type 0) → Part
+with P f = record { Of = P .Of; bytes = P .bytes; book = P .book; Meets = λ x. P .Meets x × f x }
+
+-- a record in front
+abbrev pub behind : (P : Part) → (P .Of → Rec) → Part
+behind P f = record { Of = P .Of; bytes = P .bytes; book = λ x. f x ∷ P .book x; Meets = P .Meets }
+
+-- one after the other
+abbrev pub flat : {A B : Type 0} → (A → List B) → List A → List B
+flat f [] = []
+flat f (x ∷ xs) = f x ++ flat f xs
+
+abbrev pub total : {A : Type 0} → (A → ℕ) → List A → ℕ
+total f [] = 0
+total f (x ∷ xs) = f x + total f xs
+
+abbrev pub AllMeet : {A : Type 0} → (A → Type 0) → List A → Type 0
+AllMeet f [] = Unit {0}
+AllMeet f (x ∷ xs) = f x × AllMeet f xs
+
+abbrev pub many : Part → Part
+many P = record { Of = List (P .Of); bytes = flat (P .bytes); book = flat (P .book); Meets = AllMeet (P .Meets) }
+
+-- a sealed element whose first tag byte is one of these, behind what stands in front of it in its record
+abbrev pub sealedOne : (ℕ → Bool) → ℕ → (ℕ → List ℕ) → Item
+sealedOne which kind front = record {
+  Of = Element;
+  shape = λ x. x;
+  book = λ x. rec kind (front (firstOf x) ++ elementBytes x) ∷ [];
+  Meets = λ x. IsElement x × SealedIn (constructed (firstOf x)) (x .contents) × (which (firstOf x) ≡ true);
+}
+
+-- an element with one of these tags, and what is inside it
+abbrev pub choice : (ℕ → Bool) → (ℕ → Part) → Item
+choice which P = record {
+  Of = (t : ℕ) × P t .Of;
+  shape = λ x. low (x .0) (P (x .0) .bytes (x .1));
+  book = λ x. P (x .0) .book (x .1);
+  Meets = λ x. (which (x .0) ≡ true) × P (x .0) .Meets (x .1);
+}
+
+-- none
+abbrev pub never : Item
+never = record { Of = ⊥; shape = λ x. absurd x; book = λ x. absurd x; Meets = λ x. ⊥ }
+
+-- bytes as they are, in a record of their own
+abbrev pub raw : (List ℕ → Rec) → (List ℕ → Type 0) → Part
+raw r f = record { Of = List ℕ; bytes = λ c. c; book = λ c. r c ∷ []; Meets = f }
+
+-- what has no byte has no record
+abbrev pub unlessEmpty : ℕ → List ℕ → List Rec
+unlessEmpty kind [] = []
+unlessEmpty kind (x ∷ c) = rec kind (x ∷ c) ∷ []
+
+-- "Rest means sealed elements after the listed components; the tag of an optional or defaulted component of that sequence may not occur there."
+abbrev pub rest : ℕ → List ℕ → Part
+rest kind out = record { Of = List ℕ; bytes = λ c. c; book = unlessEmpty kind; Meets = SealedRun 16 out }
+
+-- the values of a form
+abbrev pub Worth : Form → Type 0
+Worth form.Boolean = ℕ
+Worth form.Integer = ℕ
+Worth form.Bits = ℕ
+Worth form.Null = Unit {0}
+Worth form.Text = List ℕ
+Worth form.Time = List ℕ
+Worth form.Octets = List ℕ
+
+-- their contents
+abbrev pub contentsOf : (f : Form) → Worth f → List ℕ
+contentsOf form.Boolean v = booleanBytes v
+contentsOf form.Integer v = integerBytes false v
+contentsOf form.Bits v = flagBytes v
+contentsOf form.Null v = []
+contentsOf form.Text v = v
+contentsOf form.Time v = v
+contentsOf form.Octets v = v
+
+-- "Flags, integers and enumerations are numbers in the book; BOOLEANs one byte, 00 or 01"
+abbrev pub payOf : (f : Form) → Worth f → List ℕ
+payOf form.Boolean v = v ∷ []
+payOf form.Integer v = le32 v
+payOf form.Bits v = le32 v
+payOf form.Null v = []
+payOf form.Text v = v
+payOf form.Time v = v
+payOf form.Octets v = v
+
+-- "A component equal to its DEFAULT is not written."
+abbrev pub NotDefault : Need → ℕ → Type 0
+NotDefault Required v = Unit {0}
+NotDefault Optional v = Unit {0}
+NotDefault (Default d) v = v ≡ d → ⊥
+
+-- bounds of a number, or of a length
+abbrev pub Within : Row → ℕ → Type 0
+Within r v = (r .low ≤ v) × (v ≤ r .high)
+
+pub record WellFormed (c : List ℕ) : Type 0 where
+  pub scalars : List ℕ
+  pub each : Scalars scalars
+  pub is : c ≡ utf8s scalars
+
+abbrev pub Fine : (f : Form) → Row → Worth f → Type 0
+Fine form.Boolean r v = (v < 2) × NotDefault (r .need) v
+Fine form.Integer r v = Within r v × NotDefault (r .need) v
+Fine form.Bits r v = v < 2 ^ 32
+Fine form.Null r v = Unit {0}
+Fine form.Text r v = WellFormed v × Within r (length v)
+Fine form.Time r v = Moment v
+Fine form.Octets r v = Within r (length v)
+
+abbrev pub field : Row → Part
+field r = record {
+  Of = Worth (r .form);
+  bytes = contentsOf (r .form);
+  book = λ v. rec (r .kind) (payOf (r .form) v) ∷ [];
+  Meets = Fine (r .form) r;
+}
+
+-- the components of a table, in its order
+abbrev pub fields : List Row → Part
+fields [] = empty
+fields (r ∷ rs) = slot (r .need) (tagged (r .tag) (field r)) and fields rs
+
+-- "a first byte 00 or FF where an element would start begins the fill, and all bytes to the end must equal it"; "fill byte, 2-byte count"
+abbrev pub fillBook : ℕ → ℕ → ℕ → List Rec
+fillBook kind b zero = []
+fillBook kind b (suc n) = rec kind (b ∷ le16 (suc n)) ∷ []
+
+abbrev pub fill : ℕ → Part
+fill kind = record { Of = ℕ × ℕ; bytes = λ x. replicate (x .1) (x .0); book = λ x. fillBook kind (x .0) (x .1); Meets = λ x. (x .0 ≡ 0) ⊎ (x .0 ≡ 0xff) }
+
+infixl 20 _and_
+infixr 18 _or_

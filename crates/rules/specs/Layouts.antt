@@ -1,0 +1,137 @@
+-- "Layouts and book kinds" of document 01, each said once: what it is, how it is read and rendered, and that these agree.
+use Prim.Native.Nat.{ℕ, _/_, _%_}
+use mathlib.Core.Path.{_≡_}
+use mathlib.Core.List.{List, [], _∷_}
+use mathlib.Core.Option.{none}
+use native.Mathlib.Omega.{arith}
+use lib.Dec.{eqb}
+use borrow.Author.Tests.{eqb-true}
+use mathlib.Core.Bool.{true}
+use Rattle.rules.specs.declared.table.Class.{Class}
+use Rattle.rules.specs.declared.table.Class.the-variants.{Keys, Certificates, Containers, Authentications}
+use Rattle.rules.specs.declared.table.ObjectType.{ObjectType}
+use Rattle.rules.specs.declared.table.ObjectType.the-variants.{PrivateKey, Certificate, Password, Sealed}
+use Rattle.rules.specs.Parts.{keptOut}
+use Rattle.rules.specs.Tables.{ciaRows, commonRows, ruleRows, keyRows, certificateRows, authenticationRows, pathRows, privateRows, passwordRows, typeOf, classOf}
+use Rattle.rules.specs.Rulings.{paired, flagged, quiet}
+use Rattle.rules.specs.Grammar as grammar
+unfoldable pub use Rattle.rules.specs.Conditions.{condition}
+use Rattle.rules.specs.Conditions.{condLook}
+use Rattle.rules.specs.Kinds.{conditionKinds, condition-only}
+use Rattle.rules.specs.Bytewise.{condition-b}
+use Rattle.rules.specs.ConditionRound as round
+use Rattle.rules.specs.ConditionLaws as exact
+use Rattle.rules.specs.Layout.{Layout, Single, _and_, fields, rest, ended, apart, with, due, told, maybe, atLeastOne, sealedAll, one, sealedOne, kept, orSealed, byClass, byType, alone, OfClass, classKinds, OfType, typeKinds}
+use Rattle.rules.specs.Checking.{BothOrNeither, pairs, flags}
+
+-- "Path 30 { 04, 0 to 64 bytes, 0180; index 02? 0181; length 80? 0182 }, both to 65,535, both or neither"
+unfoldable pub path : Layout
+path = with (ended (fields pathRows)) paired (λ (p, (index, (len, _))). BothOrNeither index len) pairs
+
+-- "Conditions in prefix order", "At most 8 deep (house), a leaf at the top being 1"
+abbrev pub plainCondition : Layout
+plainCondition = record {
+  part = grammar.one (condition 8 .item);
+  read = λ s own end at. quiet (condition 8 .read s 0 end at);
+  render = condition 8 .render;
+  kinds = condLook;
+  tags = exact.condLook;
+  all = conditionKinds;
+  only = condition-only 8;
+  Fine = Unit {0};
+  lawful = λ _. record { round = λ s b m own o. round.plain-condition s b m; exact = λ s b m own. exact.plain-condition s b m; clean = condition-b 8 };
+}
+
+-- "A rule is 30 { accessMode 03 0125, condition, rest 012C }"
+unfoldable pub rule : Layout
+rule = fields ruleRows and plainCondition and rest 0x012c []
+
+-- "rules 30?, at least one"
+unfoldable pub rules : Layout
+rules = atLeastOne (due 0x30 rule)
+
+-- "Common: label .. userConsent ..; rules 30?, at least one; rest 012F"
+unfoldable pub common : Layout
+common = fields commonRows and maybe 0x30 rules and rest 0x012f (0x30 ∷ keptOut commonRows)
+
+-- "Class, keys: .. rest 013F. Certificates: .. rest 014F. Authentication: .. rest 015F. Data containers: sealed contents, 0160, present even when empty"
+abbrev pub classes : Class → Layout
+classes Keys = fields keyRows and rest 0x013f (keptOut keyRows)
+classes Certificates = fields certificateRows and rest 0x014f (keptOut certificateRows)
+classes Authentications = fields authenticationRows and rest 0x015f (keptOut authenticationRows)
+classes Containers = sealedAll 0x0160
+
+unfoldable pub class : Class → Layout
+class = byClass classes
+
+-- "Subclass: one sealed element inside the A0, 0170"
+unfoldable pub subclass : Layout
+subclass = ended (one (sealedOne 0x0170))
+
+-- "Private key of tag 30, as 30 { Path, modulusLength 02 (to 65,535) 0183, rest 018F }"
+unfoldable pub privateKey : Layout
+privateKey = told 0x30 path and fields privateRows and rest 0x018f (keptOut privateRows)
+
+-- "Path where the first element has tag 30, otherwise that element sealed 0184"
+unfoldable pub certificateValue : Single
+certificateValue = orSealed 0x30 path 0x0184
+
+-- "Certificate of tag 30, as 30 { .., rest 018F }"
+unfoldable pub certificate : Layout
+certificate = one certificateValue and rest 0x018f []
+
+-- "Password (authentication, tag 30), as 30 { pwdFlags .. lastPasswordChange 18? 0197, Path? 30, rest 019F }"; "8: pwdFlags bits 6 and 7 both set"
+unfoldable pub password : Layout
+password = with (fields passwordRows and maybe 0x30 path and rest 0x019f (0x30 ∷ keptOut passwordRows)) flagged (λ (((bits, _), _), _). bits / 64 % 4 ≡ 3 → ⊥) (flags (path .part))
+
+-- "Private key .. Certificate .. Password .. All others sealed, 01A0"
+abbrev pub types : ObjectType → Layout
+types PrivateKey = due 0x30 privateKey
+types Certificate = due 0x30 certificate
+types Password = due 0x30 password
+types Sealed = kept 0x01a0
+
+unfoldable pub typed : ObjectType → Layout
+typed = byType types
+
+-- "contents common 30, class 30, subclass A0?, type A1", "Type is one element."
+unfoldable pub contents : ℕ → ℕ → Layout
+contents entry tag = ended (due 0x30 common and due 0x30 (class (classOf entry)) and maybe 0xa0 subclass and due 0xa1 (ended (apart (typed (typeOf entry tag)))))
+
+-- no tag and no kind in it is taken for another
+classes-fine : (c : Class) → OfClass (classKinds classes) (classes c)
+classes-fine Keys = search tt
+classes-fine Certificates = search tt
+classes-fine Authentications = search tt
+classes-fine Containers = search tt
+
+types-fine : (x : ObjectType) → OfType (typeKinds types) (types x)
+unfolding privateKey certificate certificateValue password path
+types-fine PrivateKey = search tt
+types-fine Certificate = search tt
+types-fine Password = search tt
+types-fine Sealed = search tt
+
+pub contents-fine : (entry tag : ℕ) → contents entry tag .Fine
+unfolding contents common rules rule class subclass typed privateKey certificate certificateValue password path
+contents-fine entry tag = search (tt, classes-fine, types-fine)
+
+-- the kinds that may not follow it
+unfoldable pub objectStop : List ℕ
+unfolding contents common rules rule class subclass typed privateKey certificate certificateValue password path
+objectStop = contents 0 0 .kinds .stop
+
+-- "CIAInfo, SEQUENCE 30: .. rest 0106"
+unfoldable pub info : Layout
+info = fields ciaRows and rest 0x0106 (keptOut ciaRows)
+
+-- "CIAInfo's file has just one element: none, even before fill, is 5 at the file's end, before 11; a second is 3", "CIAInfo's fill, 0108"
+unfoldable pub cia : Layout
+cia = alone 0x0108 (due 0x30 info)
+
+is-30 : (t : ℕ) → eqb t 0x30 ≡ true → (t ≡ 0 → ⊥) × (t ≡ 0xff → ⊥)
+is-30 t e = let q = eqb-true t 0x30 e in ((λ z. omega arith), (λ z. omega arith))
+
+pub cia-fine : cia .Fine
+unfolding cia info
+cia-fine = search (tt, is-30)
