@@ -1,49 +1,41 @@
 -- A card, in the order and the words of document 01: what may stand in it, its dump and its book. Nothing is read here.
-use Prim.Native.Nat.{ℕ, _+_, _≤_}
+use Prim.Native.Nat.{ℕ, zero, suc, _≤_}
 use mathlib.Core.Path.{_≡_}
-use mathlib.Core.List.{List, [], _∷_, _++_}
-use mathlib.Core.Bool.{Bool, not, _&&_, _||_}
+use mathlib.Core.List.{List, [], _∷_, _++_, map}
 use mathlib.Core.Logic.{inl, inr}
 use mathlib.Core.Option.{Option, none, some}
 use lib.ListN.{length}
-use lib.Dec.{leb, eqb}
 use Rattle.elements.specs.Record.{recordBytes}
 use Rattle.rules.specs.declared.table.Class.{Class}
 use Rattle.rules.specs.declared.table.Class.the-variants.{Keys, Certificates, Containers, Authentications}
-use Rattle.rules.specs.Reading.{Rec, rec}
+use Rattle.rules.specs.declared.table.Sort.the-variants.{Always, Identifier, Not, And, Or, Other}
+use Rattle.rules.specs.Reading.{Rec}
 use Rattle.rules.specs.Tables.{classOf}
 use Rattle.rules.specs.Files.{Name, paths}
-use Rattle.rules.specs.Grammar.{Part, Item, empty, _and_, _or_, one, tagged, with, behind, many, sealedOne, choice, raw, flat, total}
+use Rattle.rules.specs.Grammar.{Part, empty, _and_, flat}
+use Rattle.rules.specs.Conditions.{condition}
 use Rattle.rules.specs.Layouts as layouts
+use Rattle.rules.specs.Entries as entries
 use Rattle.rules.specs.FileLayouts as filing
-pub use Rattle.rules.specs.Entries.{objectTag, naming, inline, knownTag, unknownTag, entry, inKnown, inEntry}
-unfoldable pub use Rattle.rules.specs.Entries.{object}
-pub use Rattle.rules.specs.Grammar.{fill, fillBook}
 
-abbrev pub class : Class → Part
-class c = layouts.class c .part
-
-abbrev pub contents : ℕ → ℕ → Part
-contents entry tag = layouts.contents entry tag .part
-
+-- "CIAInfo", with its fill
 abbrev pub cia : Part
 cia = layouts.cia .part
 
+-- "EF.OD: entries .. Then fill"
 abbrev pub od : Part
 od = filing.od .part
 
 -- the path that an entry names
-abbrev pub knownName : (t : ℕ) → (naming t or inline t) .Of → List Name
-knownName t (inl p) = record { tag = t; path = p } ∷ []
-knownName t (inr os) = []
-
-abbrev pub nameOf : entry .Of → List Name
-nameOf (inl (t, x)) = knownName t x
-nameOf (inr x) = []
+abbrev pub nameIn : entries.item .Of → List Name
+nameIn (inl (t, inl path)) = record { tag = t; path = path } ∷ []
+nameIn (inl (t, inr objects)) = []
+nameIn (inr unknown) = []
 
 abbrev pub namesOf : od .Of → List Name
-namesOf (es, _) = flat nameOf es
+namesOf (list, fill) = flat nameIn list
 
+-- "for each path entry 0118, its objects, its fill"
 abbrev pub directory : ℕ → Part
 directory t = filing.directory t .part
 
@@ -61,50 +53,6 @@ unfoldable pub files : List Name → Part
 files [] = empty
 files (n ∷ ns) = file n and files ns
 
--- how many objects there are
-unfoldable pub inFiles : (ns : List Name) → files ns .Of → ℕ
-unfolding files
-inFiles [] x = 0
-inFiles (n ∷ ns) ((os, _), x) = length os + inFiles ns x
-
--- an authentication object's "own authId 04? 0150"
-abbrev pub givenId : Option (List ℕ) → List (List ℕ)
-givenId none = []
-givenId (some c) = c ∷ []
-
-unfoldable pub classId : (c : Class) → class c .Of → List (List ℕ)
-unfolding layouts.class
-classId Keys x = []
-classId Certificates x = []
-classId Containers x = []
-classId Authentications ((id, _), _) = givenId id
-
-unfoldable pub ownId : (t : ℕ) → object t .Of → List (List ℕ)
-unfolding object layouts.contents
-ownId t (tag, (((_, c), _), _)) = classId (classOf t) c
-
-abbrev pub knownIds : (t : ℕ) → (naming t or inline t) .Of → List (List ℕ)
-knownIds t (inl p) = []
-knownIds t (inr os) = flat (ownId t) os
-
-abbrev pub entryIds : entry .Of → List (List ℕ)
-entryIds (inl (t, x)) = knownIds t x
-entryIds (inr x) = []
-
-unfoldable pub fileIds : (ns : List Name) → files ns .Of → List (List ℕ)
-unfolding files
-fileIds [] x = []
-fileIds (n ∷ ns) ((os, _), x) = flat (ownId (n .tag)) os ++ fileIds ns x
-
--- no two are equal
-abbrev pub NotIn : List ℕ → List (List ℕ) → Type 0
-NotIn x [] = Unit {0}
-NotIn x (y ∷ ys) = (x ≡ y → ⊥) × NotIn x ys
-
-abbrev pub Distinct : List (List ℕ) → Type 0
-Distinct [] = Unit {0}
-Distinct (x ∷ xs) = NotIn x xs × Distinct xs
-
 -- CIAInfo, EF.OD, and a directory file for each entry that names a path
 pub record Card : Type 0 where
   pub info : cia .Of
@@ -118,6 +66,74 @@ dumpOf c = recordBytes 1 (cia .bytes (c .info)) ++ (recordBytes 2 (od .bytes (c 
 abbrev pub bookOf : Card → List Rec
 bookOf c = cia .book (c .info) ++ (od .book (c .main) ++ files (namesOf (c .main)) .book (c .dirs))
 
+-- an object: its entry's tag, and what it is
+abbrev pub Object : Type 0
+Object = (entry : ℕ) × entries.object entry .part .Of
+
+-- its records, from its 0120 on
+abbrev pub recordsOf : Object → List Rec
+recordsOf (entry, object) = entries.object entry .part .book object
+
+-- "Book 0120: entry tag, object tag", and the records behind it
+unfoldable pub front : Object → List ℕ
+unfolding entries.object
+front (entry, (tag, contents)) = entry ∷ tag ∷ []
+
+unfoldable pub behind : Object → List Rec
+unfolding entries.object
+behind (entry, (tag, contents)) = layouts.contents entry tag .part .book contents
+
+-- "contents common 30, class 30, subclass A0?, type A1"
+unfoldable pub commonPart : (entry : ℕ) → entries.object entry .part .Of → layouts.common .part .Of
+unfolding entries.object layouts.contents
+commonPart entry (tag, (((common, class), subclass), type)) = common
+
+unfoldable pub classPart : (entry : ℕ) → entries.object entry .part .Of → layouts.class (classOf entry) .part .Of
+unfolding entries.object layouts.contents
+classPart entry (tag, (((common, class), subclass), type)) = class
+
+-- the objects of a card, "numbered from 0 in book order": those in EF.OD, then those of the files
+abbrev pub under : (t : ℕ) → List (entries.object t .part .Of) → List Object
+under t os = map (λ o. (t, o)) os
+
+abbrev pub inEntry : entries.item .Of → List Object
+inEntry (inl (t, inl path)) = []
+inEntry (inl (t, inr objects)) = under t objects
+inEntry (inr unknown) = []
+
+unfoldable pub inFiles : (ns : List Name) → files ns .Of → List Object
+unfolding files
+inFiles [] x = []
+inFiles (n ∷ ns) ((objects, fill), x) = under (n .tag) objects ++ inFiles ns x
+
+abbrev pub objectsOf : Card → List Object
+objectsOf c = flat inEntry (c .main .0) ++ inFiles (namesOf (c .main)) (c .dirs)
+
+-- an authentication object's "own authId 04? 0150"
+abbrev pub given : Option (List ℕ) → List (List ℕ)
+given none = []
+given (some id) = id ∷ []
+
+unfoldable pub ownIdIn : (c : Class) → layouts.class c .part .Of → List (List ℕ)
+unfolding layouts.class
+ownIdIn Keys x = []
+ownIdIn Certificates x = []
+ownIdIn Containers x = []
+ownIdIn Authentications ((id, references), rest) = given id
+
+abbrev pub ownId : Object → List (List ℕ)
+ownId (entry, object) = ownIdIn (classOf entry) (classPart entry object)
+
+-- no two are equal
+abbrev pub NotIn : List ℕ → List (List ℕ) → Type 0
+NotIn x [] = Unit {0}
+NotIn x (y ∷ ys) = (x ≡ y → ⊥) × NotIn x ys
+
+abbrev pub Distinct : List (List ℕ) → Type 0
+Distinct [] = Unit {0}
+Distinct (x ∷ xs) = NotIn x xs × Distinct xs
+
+-- what a card has to meet
 pub record Meets (c : Card) : Type 0 where
   pub info : cia .Meets (c .info)
   pub main : od .Meets (c .main)
@@ -127,8 +143,36 @@ pub record Meets (c : Card) : Type 0 where
   pub info-size : length (cia .bytes (c .info)) ≤ 16383
   pub main-size : length (od .bytes (c .main)) ≤ 16383
   -- "At most 128 objects (house)"
-  pub few : total inEntry (c .main .0) + inFiles (namesOf (c .main)) (c .dirs) ≤ 128
+  pub few : length (objectsOf c) ≤ 128
   -- "12 paths: EF.OD names a path twice"
   pub paths-once : Distinct (paths (namesOf (c .main)))
   -- "13 twice: two authentication objects with equal own authId"
-  pub ids-once : Distinct (flat entryIds (c .main .0) ++ fileIds (namesOf (c .main)) (c .dirs))
+  pub ids-once : Distinct (flat ownId (objectsOf c))
+
+-- the identifiers in a condition, at any depth, one after the other
+unfoldable pub identifiersIn : (levels : ℕ) → condition levels .item .Of → List (List ℕ)
+unfolding condition
+identifiersIn zero x = absurd x
+identifiersIn (suc l) (Always, nothing) = []
+identifiersIn (suc l) (Identifier, id) = id ∷ []
+identifiersIn (suc l) (Not, inner) = identifiersIn l inner
+identifiersIn (suc l) (And, inner) = flat (identifiersIn l) inner
+identifiersIn (suc l) (Or, inner) = flat (identifiersIn l) inner
+identifiersIn (suc l) (Other, sealed) = []
+
+-- and in an object's rules
+unfoldable pub inRule : layouts.rule .part .Of → List (List ℕ)
+unfolding layouts.rule
+inRule ((mode, condition), rest) = identifiersIn 8 condition
+
+unfoldable pub inRules : layouts.rules .part .Of → List (List ℕ)
+unfolding layouts.rules
+inRules (first, others) = inRule first ++ flat inRule others
+
+unfoldable pub inCommon : layouts.common .part .Of → List (List ℕ)
+unfolding layouts.common
+inCommon ((fields, none), rest) = []
+inCommon ((fields, some rules), rest) = inRules rules
+
+abbrev pub identifiers : Object → List (List ℕ)
+identifiers (entry, object) = inCommon (commonPart entry object)

@@ -1,5 +1,4 @@
 -- Document 01's shared case as a card: its dump and its book by computing.
-use Prim.Native.Nat.{ℕ}
 use mathlib.Core.Path.{_≡_, refl}
 use mathlib.Core.List.{[], _∷_}
 use mathlib.Core.Logic.{inl}
@@ -13,32 +12,33 @@ use Rattle.rules.specs.Tables.{typeOf}
 use Rattle.rules.specs.Book.{encode}
 use Rattle.rules.specs.Grammar.{elementBytes}
 use Rattle.rules.specs.Layouts as layouts
+use Rattle.rules.specs.Entries as entries
 use Rattle.cards.specs.Card as card
 use Rattle.cards.specs.Card.{Card, dumpOf, bookOf}
 use Rattle.rules.specs.Examples.{shared, sharedBook}
 
 -- a private key: authId 01; iD 01, usage 4; path 4B01, modulus of 2,048 bits
-abbrev keyObject : (t : ℕ) × card.contents 0xa0 t .Of
-unfolding typeOf layouts.objectStop layouts.cia layouts.info
+abbrev keyObject : entries.object 0xa0 .part .Of
+unfolding typeOf entries.object layouts.insides layouts.cia layouts.info
 keyObject = (0x30, ((((((none, (none, (some (0x01 ∷ []), (none, tt)))), none), []), ((0x01 ∷ [], (4, (none, (none, (none, (none, (none, tt))))))), [])), none), (((0x4b ∷ 0x01 ∷ [], (none, (none, tt))), (2048, tt)), [])))
 
 -- a password: authId 02; own authId 01; flags 16, type 1, lengths 4 and 8
-abbrev passwordObject : (t : ℕ) × card.contents 0xa8 t .Of
-unfolding typeOf layouts.objectStop layouts.cia layouts.info
+abbrev passwordObject : entries.object 0xa8 .part .Of
+unfolding typeOf entries.object layouts.insides layouts.cia layouts.info
 passwordObject = (0x30, ((((((none, (none, (some (0x02 ∷ []), (none, tt)))), none), []), ((some (0x01 ∷ []), (none, (none, tt))), [])), none), (((16, (1, (4, (8, (none, (none, (none, (none, tt)))))))), none), [])))
 
 unfoldable sharedCard : Card
-unfolding card.files card.object typeOf layouts.objectStop layouts.cia layouts.info
+unfolding card.files entries.object typeOf layouts.insides layouts.cia layouts.info
 sharedCard = record {
-  info = (((1, (none, (none, (none, (0, tt))))), []), (0, 0));
-  main = (inl (0xa0, inl (0x44 ∷ 0x01 ∷ [])) ∷ inl (0xa8, inl (0x44 ∷ 0x04 ∷ [])) ∷ [], (0, 0));
-  dirs = ((keyObject ∷ [], (0, 0)), ((passwordObject ∷ [], (0, 0)), tt));
+  info = (((1, (none, (none, (none, (0, tt))))), []), none);
+  main = (inl (0xa0, inl (0x44 ∷ 0x01 ∷ [])) ∷ inl (0xa8, inl (0x44 ∷ 0x04 ∷ [])) ∷ [], none);
+  dirs = ((keyObject ∷ [], none), ((passwordObject ∷ [], none), tt));
 }
 
 shared-dump : dumpOf sharedCard ≡ shared
-unfolding sharedCard card.files card.object layouts.objectStop layouts.cia layouts.info layouts.condition typeOf elementBytes tagBytes shortest integerBytes spread spreadBy flagBytes width flagRun reversed leadingZeros recordBytes
+unfolding sharedCard card.files entries.object layouts.insides layouts.cia layouts.info typeOf elementBytes tagBytes shortest integerBytes spread spreadBy flagBytes width flagRun reversed leadingZeros recordBytes
 shared-dump = refl
 
 shared-book : encode (bookOf sharedCard) ≡ sharedBook
-unfolding sharedCard card.files card.object layouts.objectStop layouts.cia layouts.info layouts.condition typeOf encode recordBytes
+unfolding sharedCard card.files entries.object layouts.insides layouts.cia layouts.info typeOf encode recordBytes
 shared-book = refl

@@ -1,5 +1,11 @@
 pub mod Card
-pub mod CardKindLaws
-pub mod CardFileLaws
-pub mod CardDumpLaws
+pub mod CardKinds
+pub mod CardRender
+pub mod Blocks
+pub mod OnceLaws
+pub mod FrameLaws
+pub mod DirectoryLaws
+pub mod DumpLaws
+pub mod WriteLaws
+pub mod Demand2
 pub mod CardExample

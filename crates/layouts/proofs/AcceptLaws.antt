@@ -21,7 +21,7 @@ use Rattle.rules.specs.Files.{Answer, equal, readDump}
 use Rattle.rules.specs.Book.{encode, records}
 use Rattle.rules.specs.Render.{render}
 use Rattle.rules.specs.Write.{written, noBook, confirmed, writeDump}
-use Rattle.rules.specs.Demand2.{refused-if-none, none-if-refused, written-then-read, book-most}
+use Rattle.cards.specs.Demand2.{refused-if-none, none-if-refused, written-then-read, book-most}
 use Rattle.reader.specs.Stages.{Reads, reads, falls}
 use Rattle.writer.specs.Making.{Fitted, fits, beyond}
 use Rattle.layouts.specs.Accept.{confirming, Confirms, Tried, holds, none, BookTold}

@@ -19,7 +19,7 @@ use Rattle.rules.specs.Files.{Answer, accepted, refused, readDump}
 use Rattle.rules.specs.Book.{encode}
 use Rattle.rules.specs.Write.{Written, written, noBook, writeDump}
 use Rattle.rules.specs.Meaning.{Has, AcceptedBook}
-use Rattle.rules.specs.Demand2.{place-in-dump, read-then-written, written-then-read, refused-if-none, none-if-refused}
+use Rattle.cards.specs.Demand2.{place-in-dump, read-then-written, written-then-read, refused-if-none, none-if-refused}
 use Rattle.layouts.specs.Service.{Served, served, giving, byAnswer, reading, ReadTold, byWritten, writing, WriteTold}
 
 module _ {a b : List ℕ} {f : Fault} {p : ℕ} where

@@ -10,7 +10,7 @@ use Rattle.rules.specs.Book.{Ends}
 use Rattle.rules.specs.BookLaws.{from-few}
 use Rattle.links.specs.declared.fields.Place.{Place}
 use Rattle.links.specs.declared.fields.Place.the-variants as place
-use Rattle.links.specs.Links.{objectsFrom, Found, none, found, firstOf, objectAt, fieldIn}
+use Rattle.links.specs.Links.{objectsFrom, Found, none, firstOf, objectAt, fieldIn}
 use Rattle.links.specs.Finding.{Within, objectsAt, heldAt, objectThere, NextObject, FoundAt}
 use Rattle.links.proofs.ObjectLaws.{within-end}
 use Rattle.links.specs.Serving.{placeOf, PlacedAt}

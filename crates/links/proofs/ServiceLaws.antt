@@ -13,13 +13,13 @@ use Rattle.rules.specs.declared.outcome.Outcome.{Outcome}
 use Rattle.rules.specs.declared.outcome.Outcome.the-variants.{Refused}
 use Rattle.rules.specs.Book.{records}
 use Rattle.rules.specs.Write.{written, writeDump}
-use Rattle.rules.specs.WriteLaws.{records-of}
-use Rattle.rules.specs.Demand2.{read-then-written, refused-if-none, book-most}
+use Rattle.cards.specs.WriteLaws.{records-of}
+use Rattle.cards.specs.Demand2.{read-then-written, refused-if-none, book-most}
 use Rattle.layouts.specs.Service.{Gives}
 use Rattle.layouts.specs.Accept.{BookTold}
 use Rattle.links.specs.declared.fields.Place.{Place}
 use Rattle.links.specs.declared.fields.Place.the-variants as place
-use Rattle.links.specs.Links.{none, links, linksFrom, listed, objectAt, fieldIn, fieldOf}
+use Rattle.links.specs.Links.{links, linksFrom, listed, objectAt, fieldIn, fieldOf}
 use Rattle.links.specs.Finding.{Within, objectsAt, RowsPut}
 use Rattle.links.specs.WholeLaws.{few-objects}
 use Rattle.links.specs.FindingLaws.{from-start}
@@ -34,7 +34,7 @@ book-few {b} k e =
     let a = k .yes e in
     let h = a .has in
     let q : records b ≡ h .records = rw (h .book) at (records-of (a .dump) (h .records) (h .bytes) (h .reads)) in
-    rw (from-start b, q) (few-objects (a .dump) (h .records) (h .reads))
+    rw (from-start b, q) (few-objects (a .dump) (h .records) (h .bytes) (h .reads))
 
 -- the book is one, or none
 module _ {b : List ℕ} {t : Bool} (k : BookTold b t) where

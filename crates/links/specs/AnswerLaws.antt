@@ -10,8 +10,8 @@ use borrow.Author.Tests.{eqb-true, eqb-false}
 use Rattle.elements.specs.Choice.{choose}
 use Rattle.rules.specs.Reading.{Rec}
 use Rattle.rules.specs.Files.{equal}
-use Rattle.rules.specs.DumpLaws.{equal-is}
-use Rattle.rules.specs.WriteLaws.{equal-self}
+use Rattle.rules.specs.EqualLaws.{equal-is}
+use Rattle.rules.specs.EqualLaws.{equal-self}
 use Rattle.links.specs.Links.{Held, held, Object, objectsOf, states, answering, idKind, Found, none, found, firstOf, isId, bears, answers, Reply, by, missing, Row, row, replies, rowsOf, stated, objectRows, linksFrom, links, chosen, objectAt, States, Bears}
 
 -- what bearing is

@@ -8,7 +8,7 @@ use native.Mathlib.Omega.{arith}
 use lib.ListN.{length, getD, drop}
 use lib.Seq.{drop-nil}
 use Rattle.elements.specs.ChoiceLaws.{by-choose, both-true}
-use Rattle.rules.specs.DumpLaws.{equal-is}
+use Rattle.rules.specs.EqualLaws.{equal-is}
 use Rattle.links.specs.Links.{Object, answering, Found, none, found, isId, bears, answers, chosen, objectAt}
 use Rattle.links.specs.Finding.{objectsAt, idIn, idAt}
 

@@ -7,9 +7,9 @@ use mathlib.Core.Bool.{Bool, true, false, _&&_}
 use lib.ListN.{length, getD}
 use lib.Dec.{leb, eqb}
 use Rattle.elements.specs.Choice.{pick, choose}
-use Rattle.rules.specs.Reading.{Rec, rec}
+use Rattle.rules.specs.Reading.{Rec}
 use Rattle.rules.specs.Files.{equal}
-use Rattle.rules.specs.Blocks.{closing, ObjectAt}
+use Rattle.rules.specs.Blocks.{closing}
 
 -- a record of an object, and its book offset
 pub record Held : Type 0 where
@@ -185,10 +185,3 @@ Before r q = (r .at < q .at) ⊎ ((r .at ≡ q .at) × Lower (r .reply) (q .repl
 abbrev pub Rises : List Row → Type 0
 Rises [] = Unit {0}
 Rises (r ∷ rs) = ((q : Row) → List·Memᴰ q rs → Before r q) × Rises rs
-
--- object j of the book is the one at this place of the dump, and each link that a record of it makes is stated, however deep the record's element stands
-pub record Stating (d : List ℕ) (os : List Object) (j place : ℕ) : Type 0 where
-  pub p : List ℕ
-  pub rs : List Rec
-  pub read : ObjectAt d place p rs
-  pub each : (kind : ℕ) (x : List ℕ) {link : ℕ} → List·Memᴰ (rec kind x) rs → states (getD p 0 0) kind ≡ link → (link ≡ 0 → ⊥) → (q : ℕ) × States os link j q x

@@ -1,19 +1,29 @@
--- The objects of an accepted book are those of its dump, each whole (demand 3).
-use Prim.Native.Nat.{ℕ, zero, suc, _≤_, _<_}
-use mathlib.Core.Path.{_≡_, refl, ap}
-use mathlib.Core.List.{List, [], _∷_, _++_, List·Memᴰ, List·Memᴰ·head, List·Memᴰ·tail}
+-- The objects of a card's book are the card's, in turn, each whole (demand 3).
+use Prim.Native.Nat.{ℕ, suc, _≤_}
+use mathlib.Core.Path.{_≡_, refl, sym, ap, _∙_}
+use mathlib.Core.List.{List, [], _∷_, _++_, List·Memᴰ, List·Memᴰ·head, List·Memᴰ·tail, List·Memᴰ·cases-cons}
+use mathlib.Core.Logic.{⊎-elim}
 use mathlib.Core.Bool.{Bool, false, not}
 use native.Mathlib.Omega.{arith}
-use lib.ListN.{length, getD}
+use lib.ListN.{length}
 use lib.Dec.{eqb, T}
 use borrow.Author.Tests.{not-true}
+use Rattle.elements.specs.Choice.{choose}
 use Rattle.elements.specs.ChoiceLaws.{all-both}
+use Rattle.elements.specs.Lists.{Bytes}
+use Rattle.rules.specs.declared.table.Sort.the-variants.{Identifier}
 use Rattle.rules.specs.Reading.{Rec, rec}
+use Rattle.rules.specs.Tables.{kindOf}
 use Rattle.rules.specs.Files.{readDump, accepted}
-use Rattle.rules.specs.PartLaws.{is-true}
-use Rattle.rules.specs.Blocks.{closing, inner, ObjectAt, Blocks, none, other, whole, Blocked}
-use Rattle.rules.specs.BlockLaws.{blocked}
-use Rattle.links.specs.Links.{Held, held, Object, past, heldFrom, objectsFrom, objectsOf, chosen, objectAt, Stating}
+use Rattle.rules.specs.TestLaws.{is-true}
+use Rattle.rules.specs.Pays.{pays}
+use Rattle.rules.specs.Blocks.{closing, inner, info-inner}
+use Rattle.cards.specs.Card as card
+use Rattle.cards.specs.Card.{Card, bookOf, front, behind, identifiers}
+use Rattle.cards.specs.CardKinds.{nested, occurs}
+use Rattle.cards.specs.Blocks.{Blocks, nothing, other, whole, records-are, front-entry, behind-inner, card-blocks}
+use Rattle.cards.specs.DumpLaws.{accepted-card}
+use Rattle.links.specs.Links.{Held, held, Object, past, heldFrom, objectsFrom, objectsOf, chosen, objectAt, states, States}
 use Rattle.links.specs.RisingLaws.{not-closing}
 
 -- these records, each with its book offset
@@ -21,19 +31,16 @@ unfoldable pub heldAll : ℕ → List Rec → List Held
 heldAll at [] = []
 heldAll at (r ∷ rs) = held at (r .kind) (r .pay) ∷ heldAll (past at r) rs
 
--- object o of the book is the one at this place of the dump, with all records that reading it gives
-pub record WholeObject (d : List ℕ) (o : Object) (place : ℕ) : Type 0 where
-  pub p : List ℕ
-  pub rs : List Rec
+-- object o of the book is the card's object x, with all its records
+pub record WholeObject (o : Object) (x : card.Object) : Type 0 where
+  pub tag : o .entry ≡ x .0
   pub from : ℕ
-  pub read : ObjectAt d place p rs
-  pub tag : o .entry ≡ getD p 0 0
-  pub all : o .records ≡ heldAll from rs
+  pub all : o .records ≡ heldAll from (behind x)
 
--- objects of the book are those at these places of the dump, in turn
-pub data WholeObjects (d : List ℕ) : List Object → List ℕ → Type 0 where
-  no-more : WholeObjects d [] []
-  one-more : {o : Object} {os : List Object} {place : ℕ} {places : List ℕ} → WholeObject d o place → WholeObjects d os places → WholeObjects d (o ∷ os) (place ∷ places)
+-- objects of a book are these of a card, in turn
+pub data WholeObjects : List Object → List card.Object → Type 0 where
+  no-more : WholeObjects [] []
+  one-more : {o : Object} {os : List Object} {x : card.Object} {xs : List card.Object} → WholeObject o x → WholeObjects os xs → WholeObjects (o ∷ os) (x ∷ xs)
 
 -- a test that fails
 untrue : (t : Bool) → T (not t) → t ≡ false
@@ -59,38 +66,49 @@ held-behind at (r ∷ rs) bs h f =
     rw (t .0, held-behind (past at r) rs bs (t .1) f) refl
 
 -- and nothing of the blocks behind them, since these begin with a record that closes an object
-held-none : {d : List ℕ} {bs : List Rec} {places : List ℕ} → Blocks d bs places → (at : ℕ) → heldFrom at bs ≡ []
+held-none : {xs : List card.Object} {bs : List Rec} → Blocks xs bs → (at : ℕ) → heldFrom at bs ≡ []
 unfolding heldFrom
-held-none none at = refl
+held-none nothing at = refl
 held-none (other kind p h b) at = rw (is-true (closing kind) (all-both (closing kind) (not (eqb kind 0x0120)) h .0)) refl
 held-none (whole o b) at = refl
 
 -- the objects in blocks are whole, and so are those of the book
-whole-blocks : {d : List ℕ} {bs : List Rec} {places : List ℕ} → Blocks d bs places → (at : ℕ) → WholeObjects d (objectsFrom at bs) places
+whole-blocks : {xs : List card.Object} {bs : List Rec} → Blocks xs bs → (at : ℕ) → WholeObjects (objectsFrom at bs) xs
 unfolding objectsFrom
-whole-blocks none at = no-more
+whole-blocks nothing at = no-more
 whole-blocks (other kind p h b) at = rw (untrue (eqb kind 0x0120) (all-both (closing kind) (not (eqb kind 0x0120)) h .1)) (whole-blocks b (past at (rec kind p)))
-whole-blocks {d} (whole {bs = bs} {rs = rs} {places = places} {p = p} o b) at =
-    let q = past at (rec 0x0120 p) in
+whole-blocks (whole {os = xs} {rs = bs} x b) at =
+    let q = past at (rec 0x0120 (front x)) in
     one-more
-    (record { p = p; rs = rs; from = q; read = o; tag = refl; all = held-behind q rs bs (o .inside) (held-none b) })
-    (objects-behind (λ os. WholeObjects d os places) q rs bs (o .inside) (λ i. whole-blocks b i))
+    (record { tag = front-entry x; from = q; all = held-behind q (behind x) bs (behind-inner x) (held-none b) })
+    (objects-behind (λ os. WholeObjects os xs) q (behind x) bs (behind-inner x) (λ i. whole-blocks b i))
 
-whole-blocked : {d : List ℕ} {rs : List Rec} (b : Blocked d rs) → WholeObjects d (objectsOf rs) (b .places)
-whole-blocked {d} b = rw (b .whole) (objects-behind (λ os. WholeObjects d os (b .places)) 0 (b .info) (b .others) (b .outside) (whole-blocks (b .blocks)))
+pub whole-objects : (c : Card) → WholeObjects (objectsOf (bookOf c)) (card.objectsOf c)
+whole-objects c = objects-behind (λ os. WholeObjects os (card.objectsOf c)) 0 (card.cia .book (c .info)) (card.od .book (c .main) ++ card.files (card.namesOf (c .main)) .book (c .dirs)) (info-inner (c .info)) (whole-blocks (card-blocks c))
 
--- the objects of an accepted book are those at some places of the dump, each whole
-pub whole-objects : (d : List ℕ) (rs : List Rec) → readDump d ≡ accepted rs → (places : List ℕ) × (length places ≤ 128) × WholeObjects d (objectsOf rs) places
-whole-objects d rs e = let b = blocked d rs e in (b .places, b .few, whole-blocked b)
-
--- as many as the places
-same-length : {d : List ℕ} {os : List Object} {places : List ℕ} → WholeObjects d os places → length os ≡ length places
+-- as many as the card has
+same-length : {os : List Object} {xs : List card.Object} → WholeObjects os xs → length os ≡ length xs
 same-length no-more = refl
 same-length (one-more o w) = ap suc (same-length w)
 
 -- "At most 128 objects (house)"
-pub few-objects : (d : List ℕ) (rs : List Rec) → readDump d ≡ accepted rs → length (objectsOf rs) ≤ 128
-few-objects d rs e = let w = whole-objects d rs e in omega (arith, w .1, same-length (w .2))
+pub few-objects : (d : List ℕ) (rs : List Rec) → Bytes d → readDump d ≡ accepted rs → length (objectsOf rs) ≤ 128
+few-objects d rs b e = let c = accepted-card d rs b e in rw (← c .book) (omega (arith, c .meets .few, same-length (whole-objects (c .it))))
+
+-- the payloads of an object's records of kind k, in order
+unfoldable pub heldPays : ℕ → List Held → List (List ℕ)
+heldPays k [] = []
+heldPays k (h ∷ hs) = choose (eqb (h .kind) k) (λ _. h .pay ∷ heldPays k hs) (λ _. heldPays k hs)
+
+held-pays : (k at : ℕ) (rs : List Rec) → heldPays k (heldAll at rs) ≡ pays k rs
+unfolding heldPays heldAll pays
+held-pays k at [] = refl
+held-pays k at (r ∷ rs) = rw (held-pays k (past at r) rs) refl
+
+-- the 0127s of an object are the identifiers in the conditions of its rules, at any depth, as many and in the same order
+pub nested-held : {o : Object} {x : card.Object} → WholeObject o x → heldPays (kindOf Identifier) (o .records) ≡ identifiers x
+unfolding pays
+nested-held {x = x} w = rw (w .all) (held-pays (kindOf Identifier) (w .from) (behind x) ∙ sym (ap (pays (kindOf Identifier)) (records-are x)) ∙ nested x)
 
 -- a record among these is held at some offset
 held-mem : (at kind : ℕ) (x : List ℕ) (rs : List Rec) → List·Memᴰ (rec kind x) rs → (q : ℕ) × List·Memᴰ (held q kind x) (heldAll at rs)
@@ -98,21 +116,24 @@ unfolding heldAll
 held-mem at kind x rs (List·Memᴰ·head e) = (at, List·Memᴰ·head (ap (λ (r : Rec). held at (r .kind) (r .pay)) e))
 held-mem at kind x rs (List·Memᴰ·tail {x = r} {xs = rs′} m) = let w = held-mem (past at r) kind x rs′ m in (w .0, List·Memᴰ·tail (w .1))
 
--- so is one of a whole object, and what it says is stated
-whole-states : {d : List ℕ} {os : List Object} {o : Object} {j place : ℕ} → objectAt os j ≡ chosen o → WholeObject d o place → Stating d os j place
-whole-states {o = o} n w = record {
-  p = w .p;
-  rs = w .rs;
-  read = w .read;
-  each = λ kind x m s z. let h = held-mem (w .from) kind x (w .rs) m in (h .0, record { object = o; numbered = n; kind = kind; holds = rw (w .all) (h .1); says = rw (w .tag) s; some = z });
-}
+-- object j of the card is x
+pub data At (x : card.Object) : ℕ → List card.Object → Type 0 where
+  here : {xs : List card.Object} → At x 0 (x ∷ xs)
+  later : {y : card.Object} {xs : List card.Object} {j : ℕ} → At x j xs → At x (suc j) (y ∷ xs)
 
--- the object of a number
-whole-at : {d : List ℕ} {os : List Object} {places : List ℕ} → WholeObjects d os places → (j : ℕ) → j < length places → (o : Object) × (objectAt os j ≡ chosen o) × WholeObject d o (getD places j 0)
-whole-at no-more j h = absurd (omega arith)
-whole-at (one-more {o = o} w ws) zero h = (o, refl, w)
-whole-at (one-more w ws) (suc j) h = whole-at ws j (omega arith)
+whole-at : {os : List Object} {x : card.Object} {xs : List card.Object} {j : ℕ} → WholeObjects os xs → At x j xs → (o : Object) × (objectAt os j ≡ chosen o) × WholeObject o x
+whole-at (one-more {o = o} w ws) here = (o, refl, w)
+whole-at (one-more w ws) (later a) = whole-at ws a
 
--- what reading each object of the dump gives is stated
-pub objects-state : (d : List ℕ) (rs : List Rec) → readDump d ≡ accepted rs → (places : List ℕ) × (length (objectsOf rs) ≡ length places) × ((j : ℕ) → j < length places → Stating d (objectsOf rs) j (getD places j 0))
-objects-state d rs e = let w = whole-objects d rs e in (w .0, same-length (w .2), λ j h. let v = whole-at (w .2) j h in whole-states (v .1) (v .2))
+-- what a record of the card's object j says is stated
+pub each-says : (c : Card) {x : card.Object} {j : ℕ} → At x j (card.objectsOf c) → (kind : ℕ) (id : List ℕ) {link : ℕ} → List·Memᴰ (rec kind id) (behind x) → states (x .0) kind ≡ link → (link ≡ 0 → ⊥) → (p : ℕ) × States (objectsOf (bookOf c)) link j p id
+each-says c {x} a kind id m s z =
+    let w = whole-at (whole-objects c) a in
+    let h = held-mem (w .2 .from) kind id (behind x) m in
+    (h .0, record { object = w .0; numbered = w .1; kind = kind; holds = rw (w .2 .all) (h .1); says = rw (w .2 .tag) s; some = z })
+
+-- and so is each identifier in a condition of its rules
+pub each-nested : (c : Card) {x : card.Object} {j : ℕ} → At x j (card.objectsOf c) → (id : List ℕ) → List·Memᴰ id (identifiers x) → (p : ℕ) × States (objectsOf (bookOf c)) 2 j p id
+unfolding states
+each-nested c {x} a id m =
+    each-says c a (kindOf Identifier) id (⊎-elim (λ e. absurd (omega (arith, ap (λ (r : Rec). r .kind) e))) (λ t. t) (List·Memᴰ·cases-cons (rw (records-are x) at (occurs x id .0 m)))) refl (λ z. omega arith)

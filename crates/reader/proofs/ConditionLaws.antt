@@ -32,7 +32,7 @@ use Rattle.rules.specs.Book.{encode}
 use Rattle.reader.specs.Did.{Did, did, fell, Forward, Stays, DidMany, didMany, fellMany}
 use Rattle.reader.proofs.DidLaws.{encode-append, encode-one, did-one, did-fails, did-ends, element-fails, element-here}
 use Rattle.reader.proofs.RepeatLaws.{Marks, Going, going-none, going-fell, going-next, going-many}
-use Rattle.rules.specs.Layouts as layouts
+use Rattle.rules.specs.Conditions as conditions
 
 -- ---- the sort that has a tag
 module _ (t : ℕ) where
@@ -85,65 +85,65 @@ did-counts p (fell e) = fell e
 abbrev Inner : List ℕ → ℕ → ℕ → Reader
 Inner s l = λ j f i. condition s l j f i
 
-by-level : (s : List ℕ) (levels k end at : ℕ) → (levels ≡ 0 → ⊥) → condition s levels k end at ≡ counts at (element s (conditionBody s (Inner s (levels - 1)) (k + 1)) end at)
-unfolding layouts.condition
+by-level : (s : List ℕ) (levels k end at : ℕ) → (levels ≡ 0 → ⊥) → condition s levels k end at ≡ counts at (element s (conditionBody s (levels - 1) (k + 1)) end at)
+unfolding conditions.condition conditionBody
 by-level s zero k end at n = absurd (n refl)
 by-level s (suc l) k end at n = let u : suc l - 1 ≡ l = omega arith in rw u refl
 
 module _ (s : List ℕ) (levels k end at : ℕ) where
   pub condition-deep : (a : List ℕ) (o : ℕ) → levels ≡ 0 → at < end → Did a a o at end (condition s levels k end at) (Fails TooDeep at)
-  unfolding layouts.condition
+  unfolding conditions.condition
   condition-deep a o z h = rw z (rw (condition, lt-ltb at end h) (fell refl))
 
   pub condition-end : (a : List ℕ) (o : ℕ) → levels ≡ 0 → end ≤ at → Did a a o at end (condition s levels k end at) (Fails Missing end)
-  unfolding layouts.condition
+  unfolding conditions.condition
   condition-end a o z h = rw z (rw (condition, le-ltb at end h) (fell refl))
 
   module _ (n : levels ≡ 0 → ⊥) {h : Head} (g : h ≡ header s at end) where
     pub condition-bad : (a : List ℕ) (o : ℕ) {f : Fault} {p : ℕ} → h ≡ No f p → Did a a o at end (condition s levels k end at) (Fails f p)
-    condition-bad a o q = rw (by-level s levels k end at n) (did-counts at (element-fails s (conditionBody s (Inner s (levels - 1)) (k + 1)) end at g a o q))
+    condition-bad a o q = rw (by-level s levels k end at n) (did-counts at (element-fails s (conditionBody s (levels - 1) (k + 1)) end at g a o q))
 
     module _ {t x e : ℕ} (q : h ≡ At t x e) where
-      pub condition-by : {a b : List ℕ} {o : ℕ} {r : Part} → Did a b o x e (conditionBody s (Inner s (levels - 1)) (k + 1) t at x e) r → Did a b o at end (condition s levels k end at) r
-      condition-by d = rw (by-level s levels k end at n) (did-counts at (element-here s (conditionBody s (Inner s (levels - 1)) (k + 1)) end at g q d))
+      pub condition-by : {a b : List ℕ} {o : ℕ} {r : Part} → Did a b o x e (conditionBody s (levels - 1) (k + 1) t at x e) r → Did a b o at end (condition s levels k end at) r
+      condition-by d = rw (by-level s levels k end at n) (did-counts at (element-here s (conditionBody s (levels - 1) (k + 1)) end at g q d))
 
       module _ {z : Bool} (u : z ≡ (eqb t 5 && ltb x e)) where
         pub condition-null : (a : List ℕ) (o : ℕ) → z ≡ true → Did a a o at end (condition s levels k end at) (Fails BadNull at)
-        unfolding conditionBody
+        unfolding conditionBody conditionAs conditions.bodyBySort
         condition-null a o v = condition-by (rw (sym u ∙ v) (fell refl))
 
         pub condition-many : (a : List ℕ) (o : ℕ) → z ≡ false → 255 ≤ k → Did a a o at end (condition s levels k end at) (Fails ManyConditions at)
-        unfolding conditionBody
+        unfolding conditionBody conditionAs conditions.bodyBySort
         condition-many a o v m = condition-by (rw (sym u ∙ v, lt-ltb 255 (k + 1) (omega arith)) (fell refl))
 
-        pub condition-here : {a b : List ℕ} {o : ℕ} {y : Sort} {r : Part} → z ≡ false → k < 255 → y ≡ sortBy tagOf t → Did a b o x e (conditionAs s (Inner s (levels - 1)) y t at x e) r → Did a b o at end (condition s levels k end at) r
-        unfolding conditionBody
+        pub condition-here : {a b : List ℕ} {o : ℕ} {y : Sort} {r : Part} → z ≡ false → k < 255 → y ≡ sortBy tagOf t → Did a b o x e (conditionAs s (levels - 1) y t at x e) r → Did a b o at end (condition s levels k end at) r
+        unfolding conditionBody conditionAs conditions.bodyBySort
         condition-here v m w d = condition-by (rw (sym u ∙ v, le-ltb 255 (k + 1) (omega arith)) (rw w at d))
 
 -- ---- a condition of a sort
-module _ (s : List ℕ) (inner : ℕ → Reader) (t at x e : ℕ) {y : Sort} where
-  pub as-always : {a b : List ℕ} {o p : ℕ} → y ≡ Always → at + 2 ≤ x → x ≤ e → o ≤ 8 * at → p ≡ o + 4 → Put a b o p (recordBytes 0x0126 []) → Did a b o x e (conditionAs s inner y t at x e) (Took e p)
+module _ (s : List ℕ) (levels t at x e : ℕ) {y : Sort} where
+  pub as-always : {a b : List ℕ} {o p : ℕ} → y ≡ Always → at + 2 ≤ x → x ≤ e → o ≤ 8 * at → p ≡ o + 4 → Put a b o p (recordBytes 0x0126 []) → Did a b o x e (conditionAs s levels y t at x e) (Took e p)
   unfolding conditionAs
   as-always z h i l n f = rw z (did-one 0x0126 [] x e f i (omega arith))
 
   module _ {a b : List ℕ} {o : ℕ} {r : Part} where
-    pub as-identifier : y ≡ Identifier → Did a b o x e (identified s at x e) r → Did a b o x e (conditionAs s inner y t at x e) r
+    pub as-identifier : y ≡ Identifier → Did a b o x e (identified s at x e) r → Did a b o x e (conditionAs s levels y t at x e) r
     unfolding conditionAs
     as-identifier z d = rw z d
 
-    pub as-not : y ≡ Not → Did a b o x e (conditionAs s inner Not 0 at x e) r → Did a b o x e (conditionAs s inner y t at x e) r
+    pub as-not : y ≡ Not → Did a b o x e (conditionAs s levels Not 0 at x e) r → Did a b o x e (conditionAs s levels y t at x e) r
     unfolding conditionAs
     as-not z d = rw z d
 
-    pub as-and : y ≡ And → Did a b o x e (listed 0x012a e (repeat toEnd inner (e - x) 0 e x)) r → Did a b o x e (conditionAs s inner y t at x e) r
+    pub as-and : y ≡ And → Did a b o x e (listed 0x012a e (repeat toEnd (Inner s levels) (e - x) 0 e x)) r → Did a b o x e (conditionAs s levels y t at x e) r
     unfolding conditionAs
     as-and z d = rw z d
 
-    pub as-or : y ≡ Or → Did a b o x e (listed 0x012b e (repeat toEnd inner (e - x) 0 e x)) r → Did a b o x e (conditionAs s inner y t at x e) r
+    pub as-or : y ≡ Or → Did a b o x e (listed 0x012b e (repeat toEnd (Inner s levels) (e - x) 0 e x)) r → Did a b o x e (conditionAs s levels y t at x e) r
     unfolding conditionAs
     as-or z d = rw z d
 
-    pub as-other : y ≡ Other → Did a b o x e (sealed s 0x0128 [] t at x e) r → Did a b o x e (conditionAs s inner y t at x e) r
+    pub as-other : y ≡ Other → Did a b o x e (sealed s 0x0128 [] t at x e) r → Did a b o x e (conditionAs s levels y t at x e) r
     unfolding conditionAs
     as-other z d = rw z d
 
@@ -154,11 +154,11 @@ before k p f (did {bs = bs} {n = n} g i j l) = did {n = n} (put-then f g (sym (e
 before k p f (fell e) = fell (e ∙ put-length f)
 
 module _ (s : List ℕ) (levels at x e : ℕ) {a b c : List ℕ} {o q : ℕ} {w : Part} (f : Put a b o q (recordBytes 0x0129 [])) (d : Did b c q x e (condition s levels 0 e x) w) where
-  pub not-bad : {y : Fault} {p : ℕ} → w ≡ Fails y p → Did a c o x e (conditionAs s (Inner s levels) Not 0 at x e) (Fails y p)
+  pub not-bad : {y : Fault} {p : ℕ} → w ≡ Fails y p → Did a c o x e (conditionAs s levels Not 0 at x e) (Fails y p)
   unfolding conditionAs
   not-bad z = before 0x0129 [] f (did-fails d (λ n. ended s e n) z)
 
-  pub not-ends : {n p : ℕ} {r : Part} → w ≡ Took n p → Stays p n e (ended s e n) r → Did a c o x e (conditionAs s (Inner s levels) Not 0 at x e) r
+  pub not-ends : {n p : ℕ} {r : Part} → w ≡ Took n p → Stays p n e (ended s e n) r → Did a c o x e (conditionAs s levels Not 0 at x e) r
   unfolding conditionAs
   not-ends z g = before 0x0129 [] f (did-ends d z (λ n. ended s e n) g)
 
@@ -171,9 +171,9 @@ fails-marks : (f : Fault) (p c : ℕ) → Marks (fails f p) c
 fails-marks f p c = record { is = λ cs ns m e. let z : _≡_ {A = ℕ} 0 1 = cc in absurd (omega arith) }
 
 one-mark : (s : List ℕ) (levels k end at : ℕ) → Marks (condition s levels k end at) 1
-unfolding layouts.condition
+unfolding conditions.condition conditionBody
 one-mark s zero k end at = by-choose (λ w. Marks w 1) (ltb at end) (λ _ _. fails-marks TooDeep at 1) (λ _ _. fails-marks Missing end 1)
-one-mark s (suc l) k end at = counts-marks at (element s (conditionBody s (Inner s l) (k + 1)) end at)
+one-mark s (suc l) k end at = counts-marks at (element s (conditionBody s l (k + 1)) end at)
 
 -- so many were read up to n
 pub record Listing (s : List ℕ) (levels : ℕ) (a b : List ℕ) (end at o k n p : ℕ) : Type 0 where

@@ -1,4 +1,5 @@
 -- Objects with their places, and EF.OD's entries.
+use Rattle.rules.specs.Entries as entries
 use Prim.Native.Nat.{ℕ, zero, suc, _+_, _-_, _*_, _<_, _≤_}
 use mathlib.Core.Path.{_≡_, refl, sym, ap, _∙_}
 use mathlib.Core.Bool.{Bool, true, false, not, _&&_, _||_}
@@ -34,8 +35,8 @@ use Rattle.rules.specs.Parts.{repeat, toEnd, element, whatever, component, due,
 use Rattle.rules.specs.Objects.{counts, contents, object, objectBody}
 use Rattle.rules.specs.Files.{toFill, filled, fill, objects, namedPath, entryInside, entryBody, od, directory, namesOf, paths}
 use Rattle.rules.specs.Book.{encode}
-use Rattle.rules.specs.Laws.{Laid, laid-append}
-use Rattle.rules.specs.WriteLaws.{book-size}
+use Rattle.rules.specs.LookLaws.{Laid, laid-append}
+use Rattle.rules.specs.BookLaws.{book-size}
 use Rattle.reader.specs.Did.{Did, did, fell, Forward, Stays, DidObjects, didObjects, fellObjects, objectsOf, DidEntries, ForwardMany, moreOf}
 use Rattle.reader.specs.Scan.{Lies, Holds, Whole, AgainTold, keyAt}
 use Rattle.reader.proofs.DidLaws.{encode-append, encode-one, by-header, element-fails, did-one, did-high, did-small, did-same}
@@ -165,7 +166,7 @@ unfolding objectBody
 body s entry t at a e {bs} {ms} {n} = by-choose (λ (w : Res). w ≡ took bs ms n → ms ≡ at ∷ []) (eqb t 0x30 || (leb 0xa0 t && leb t 0xa7)) (λ _ _ z. counts-mark at (also (rec 0x0120 (entry ∷ t ∷ []) ∷ []) [] (contents s entry t e a)) z) (λ _ _ z. absurd (not-took z))
 
 pub object-mark : (s : List ℕ) (entry k end at : ℕ) {bs : List Rec} {ms : List ℕ} {n : ℕ} → object s entry k end at ≡ took bs ms n → ms ≡ at ∷ []
-unfolding object element
+unfolding entries.object objectBody element
 object-mark s entry k end at {bs} {ms} {n} =
     by-choose P (ltb k 128) (λ _ _. by-choose P (ltb at end) (λ _ _. go (header s at end)) (λ _ _ z. absurd (not-took z))) (λ _ _ z. absurd (not-took z))
   where
@@ -177,7 +178,7 @@ object-mark s entry k end at {bs} {ms} {n} =
     go (At t a e) = body s entry t at a e
 
 pub object-few : (s : List ℕ) (entry k end at : ℕ) {bs : List Rec} {ms : List ℕ} {n : ℕ} → object s entry k end at ≡ took bs ms n → k < 128
-unfolding object
+unfolding entries.object
 object-few s entry k end at {bs} {ms} {n} = by-choose (λ (w : Res). w ≡ took bs ms n → k < 128) (ltb k 128) (λ _ e _. ltb-true k 128 e) (λ _ _ z. absurd (not-took z))
 
 -- the loop over objects
@@ -355,7 +356,7 @@ module _ (s : List ℕ) (entry k t at x e : ℕ) {a b u v : List ℕ} {o : ℕ} 
   in-path z d = rw z d
 
   pub in-objects : t ≡ 0xa0 → DidObjects a b u v o x e k (also (rec 0x0110 (entry ∷ 1 ∷ []) ∷ []) [] (objects s toEnd entry k e x)) r → DidObjects a b u v o x e k (entryInside s entry k t at x e) r
-  unfolding entryInside
+  unfolding entryInside objects
   in-objects z d = rw z d
 
   pub body-known : {y : Bool} → y ≡ (leb 0xa0 t && leb t 0xa8) → y ≡ true → DidObjects a b u v o x e k ((element s (entryInside s t k) then ended s) e x) r → DidObjects a b u v o x e k (entryBody s k t at x e) r
@@ -481,7 +482,7 @@ module _ {s a b u v : List ℕ} {end at o k n p again : ℕ} (h : Listing s a b 
       entry-open =
           let y = objects-open (rw e at d) in
           let i = h .ready in
-          let g = entry-told s (i .bytes) (i .short) k end n before (i .inside) (y .2) in
+          let g = entry-told s (i .bytes) (i .short) k end n (h .few) before (i .inside) (y .2) in
           let f = header-in s n end (g .head) in
           let l : q + 3 ≤ 4 * r = omega (arith, h .bound, y .3 .at, book-size (y .0), g .bound) in
           let fits : q ≤ length b = omega (arith, h .same, i .wide, i .short, i .inside) in

@@ -13,7 +13,7 @@ use Rattle.elements.specs.Record.{recordBytes}
 use Rattle.rules.specs.Reading.{Rec, rec}
 use Rattle.rules.specs.Files.{two}
 use Rattle.rules.specs.Book.{encode}
-use Rattle.rules.specs.Laws.{Laid}
+use Rattle.rules.specs.LookLaws.{Laid}
 use Rattle.rules.specs.ValueLaws.{two-bytes}
 use Rattle.reader.specs.Scan.{Lies, Whole, behind}
 use Rattle.reader.proofs.DidLaws.{encode-one}

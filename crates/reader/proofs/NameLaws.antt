@@ -1,34 +1,33 @@
 -- Which entries of EF.OD name a path, and the place of the first that names one once more.
 use Prim.Native.Nat.{ℕ, zero, suc, _+_, _-_, _*_, _<_, _≤_}
 use mathlib.Core.Path.{_≡_, refl, sym, ap, _∙_}
-use mathlib.Core.Bool.{Bool, true, false, _&&_, _||_, not}
+use mathlib.Core.Bool.{Bool, true, false, _&&_, _||_}
 use mathlib.Core.List.{List, [], _∷_, _++_, append-nil}
+use mathlib.Core.Logic.{inl, inr}
 use native.Mathlib.Omega.{arith}
+use native.Mathlib.Nat.{le-of-lt}
 use lib.ListN.{length, getD, length-append}
-use lib.Seq.{slice}
-use lib.Dec.{ltb, leb, eqb, T}
-use borrow.Author.Tests.{ltb-false, lt-ltb, eq-eqb, ne-eqb}
+use lib.Seq.{slice, length-slice}
+use lib.Dec.{ltb, eqb}
+use borrow.Author.Tests.{lt-ltb, eq-eqb, ne-eqb}
 use Rattle.elements.specs.Choice.{pick, choose}
-use Rattle.elements.specs.ChoiceLaws.{by-choose, all-both}
+use Rattle.elements.specs.ChoiceLaws.{by-choose}
 use Rattle.elements.specs.Header.{header}
 use Rattle.elements.specs.HeaderLaws.{header-in}
 use Rattle.elements.specs.Lists.{Bytes}
 use Rattle.elements.specs.declared.fault.Fault.{Fault}
-use Rattle.elements.specs.declared.answer.Head.{Head}
-use Rattle.elements.specs.declared.answer.Head.the-variants.{At, No}
-use Rattle.elements.specs.declared.answer.Run.{Run}
-use Rattle.elements.specs.declared.answer.Run.the-variants.{Ends, Refused}
-use Rattle.rules.specs.declared.table.Need.the-variants.{Required}
-use Rattle.rules.specs.Reading.{Rec, rec, Res, took, fails, also, andThen, _then_, Reader}
-use Rattle.rules.specs.Parts.{repeat, counted, toEnd, element, whatever, component, due, ended, surplus, keep, innerRun, sealed}
-use Rattle.rules.specs.Objects.{object}
-use Rattle.rules.specs.Files.{Name, namesOf, paths, met, equal, firstAgain, filled, fill, objects, namedPath, entryInside, entryBody, isPath, isNaming, entryPlace}
-use Rattle.rules.specs.Blocks.{closing, inner}
-use Rattle.rules.specs.BlockLaws.{object-inner}
-use Rattle.rules.specs.Laws.{Laid, size}
-use Rattle.rules.specs.DumpLaws.{ok-facts}
-use Rattle.rules.specs.HeadLaws.{HeadOk, goodHead, header-ok}
-use Rattle.rules.specs.FileLaws.{entry-body}
+use Rattle.elements.specs.declared.answer.Head.the-variants.{At}
+use Rattle.rules.specs.Reading.{Rec, rec, Res, took, fails, also, andThen}
+use Rattle.rules.specs.Parts.{element}
+use Rattle.rules.specs.Grammar.{low, elementBytes, firstOf, flat}
+use Rattle.rules.specs.ElementLaws.{LowTag, low-tag, low-is, low-first, Stands, head-complete}
+use Rattle.rules.specs.LookLaws.{Laid, size}
+use Rattle.rules.specs.ReadLaws.{facts-kept, reads-facts}
+use Rattle.rules.specs.Counted.{listed}
+use Rattle.rules.specs.Entries.{object, item, knownTag, contextTag}
+use Rattle.rules.specs.EntryLaws.{known-low, unknown, entry-body, entry-law, entry-renders}
+use Rattle.rules.specs.Files.{Name, namesOf, paths, met, equal, firstAgain, filled, fill, entryBody, isPath, isNaming, entryPlace}
+use Rattle.cards.specs.CardKinds.{objects-names}
 use Rattle.reader.specs.Did.{PathsTold}
 use Rattle.reader.specs.declared.scan.Key.the-variants.{Path}
 use Rattle.reader.specs.Scan.{bears, keyAt}
@@ -54,46 +53,11 @@ silent-then : {w : Res} {g : ℕ → Res} → Silent w → ((n : ℕ) → Silent
 silent-then stops f = stops
 silent-then (silent {bs = bs} {ms = ms} {n = n} z) f = silent-also bs ms z (f n)
 
-silent-counted : {w : Res} {g : ℕ → ℕ → Res} → Silent w → ((c n : ℕ) → Silent (g c n)) → Silent (counted w g)
-silent-counted stops f = stops
-silent-counted (silent {bs = bs} {ms = ms} {n = n} z) f = silent-also bs ms z (f (length ms) n)
-
 silent-none : {n : ℕ} → Silent (took [] [] n)
 unfolding namesOf
 silent-none = silent refl
 
-silent-repeat : (more : ℕ → ℕ → Bool) (f : ℕ → Reader) (end : ℕ) → ((k at : ℕ) → Silent (f k end at)) → (g k at : ℕ) → Silent (repeat more f g k end at)
-unfolding repeat
-silent-repeat more f end item zero k at = by-choose Silent (more end at) (λ _ _. stops) (λ _ _. silent-none)
-silent-repeat more f end item (suc g) k at = by-choose Silent (more end at) (λ _ _. silent-counted (item k at) (λ c n. silent-repeat more f end item g (k + c) n)) (λ _ _. silent-none)
-
--- records that close no object name no path
-open-kind : (k : ℕ) → T (not (closing k)) → eqb k 0x0110 ≡ false
-open-kind k h = go (eqb k 0x0120) (eqb k 0x0110) (eqb k 0x0107 || eqb k 0x0118) h
-  where
-    go : (a b c : Bool) → T (not (a || (b || c))) → b ≡ false
-    go true b c z = absurd z
-    go false true c z = absurd z
-    go false false c z = refl
-
-inner-names : (rs : List Rec) → T (inner rs) → namesOf rs ≡ []
-unfolding namesOf
-inner-names [] h = refl
-inner-names (r ∷ rs) h = let i = all-both (not (closing (r .kind))) (inner rs) h in rw (open-kind (r .kind) (i .0)) (inner-names rs (i .1))
-
 module _ (s : List ℕ) where
-  object-silent : (entry k end at : ℕ) → Silent (object s entry k end at)
-  unfolding namesOf
-  object-silent entry k end at = go (object s entry k end at) refl
-    where
-      go : (w : Res) → object s entry k end at ≡ w → Silent w
-      go (fails f p) e = stops
-      go (took bs ms n) e = let o = object-inner s entry k end at e in silent {bs = bs} (rw (o .2) (inner-names (o .1) (o .3)))
-
-  objects-silent : (more : ℕ → ℕ → Bool) (entry k end at : ℕ) → Silent (objects s more entry k end at)
-  unfolding objects
-  objects-silent more entry k end at = silent-repeat more (object s entry) end (λ j i. object-silent entry j end i) (end - at) k at
-
   filled-silent : (b g end at : ℕ) → Silent (filled s b g end at)
   unfolding filled
   filled-silent b zero end at = silent-none
@@ -103,53 +67,6 @@ module _ (s : List ℕ) where
   pub fill-silent : (end at : ℕ) → Silent (fill s 0x0107 end at)
   unfolding fill namesOf
   fill-silent end at = by-choose Silent (ltb at end) (λ _ _. silent-then (filled-silent (getD s at 0) (end - at) end at) (λ n. silent refl)) (λ _ _. silent-none)
-
--- what an entry's contents give up to e at least: a first record, which names a path or not, and others that name none
-data Entered (naming : Bool) (e : ℕ) : Res → Type 0 where
-  refuses : {f : Fault} {p : ℕ} → Entered naming e (fails f p)
-  entered : {r : Rec} {rest : List Rec} {ms : List ℕ} {n : ℕ} → e ≤ n → namesOf rest ≡ [] → length (namesOf (r ∷ [])) ≡ pick naming 1 0 → Entered naming e (took (r ∷ rest) ms n)
-
-module _ (s : List ℕ) where
-  -- and nothing more
-  entered-ended : {x : Bool} {d e : ℕ} {w : Res} (i : ℕ) → i ≤ e → Entered x d w → Entered x i (andThen w (λ n. ended s e n))
-  unfolding ended
-  entered-ended i h refuses = refuses
-  entered-ended {x} {e = e} i h (entered {r = r} {rest = rest} {ms = ms} {n = n} j k l) = by-choose (λ (v : Res). Entered x i (also (r ∷ rest) ms v)) (ltb n e) (λ _ _. go (header s n e)) (λ _ q. entered (omega (arith, ltb-false n e q)) (rw (append-nil rest) k) l)
-    where
-      go : (v : Head) → Entered x i (also (r ∷ rest) ms (surplus n v))
-      go (No f p) = refuses
-      go (At t a b) = refuses
-
-  entered-path : (entry end at : ℕ) → Entered true 0 ((component s 0x04 Required (namedPath s entry) then ended s) end at)
-  unfolding component namedPath namesOf
-  entered-path entry end at = entered-ended 0 (omega arith) (by-choose (Entered true 0) (ltb at end) (λ _ _. go (header s at end)) (λ _ _. refuses))
-    where
-      go : (v : Head) → Entered true 0 (due 0x04 Required (namedPath s entry) at v)
-      go (No f p) = refuses
-      go (At t a e) = by-choose (Entered true 0) (eqb t 0x04) (λ _ _. by-choose (Entered true 0) (leb 1 (e - a) && leb (e - a) 64) (λ _ _. entered (omega arith) refl refl) (λ _ _. refuses)) (λ _ _. refuses)
-
-  entered-front : (entry : ℕ) {w : Res} → Silent w → Entered false 0 (also (rec 0x0110 (entry ∷ 1 ∷ []) ∷ []) [] w)
-  unfolding namesOf
-  entered-front entry stops = refuses
-  entered-front entry (silent {n = n} z) = entered {n = n} (omega arith) z refl
-
-  entered-inside : (entry k end at : ℕ) → Entered (isPath s (header s at end)) 0 (element s (entryInside s entry k) end at)
-  unfolding element entryInside
-  entered-inside entry k end at = by-choose (Entered (isPath s (header s at end)) 0) (ltb at end) (λ _ _. go (header s at end)) (λ _ _. refuses)
-    where
-      go : (v : Head) → Entered (isPath s v) 0 (whatever (entryInside s entry k) at v)
-      go (No f p) = refuses
-      go (At t a e) = by-choose (Entered (eqb t 0x30) 0) (eqb t 0x30) (λ _ q. rw q (entered-path entry e a)) (λ _ q. rw q (by-choose (Entered false 0) (eqb t 0xa0) (λ _ _. entered-front entry (objects-silent s toEnd entry k e a)) (λ _ _. refuses)))
-
-  entered-body : (k t at a e : ℕ) → Entered (leb 0xa0 t && leb t 0xa8 && isPath s (header s a e)) e (entryBody s k t at a e)
-  unfolding entryBody sealed namesOf
-  entered-body k t at a e = by-choose (Entered (leb 0xa0 t && leb t 0xa8 && isPath s (header s a e)) e) (leb 0xa0 t && leb t 0xa8)
-      (λ _ q. rw q (entered-ended e (omega arith) (entered-inside t k e a)))
-      (λ _ q. rw q (by-choose (Entered false e) (leb 0x80 t && leb t 0xbf) (λ _ _. go (innerRun s t a e)) (λ _ _. refuses)))
-    where
-      go : (r : Run) → Entered false e (keep (rec 0x0110 (t ∷ 2 ∷ slice at e s) ∷ []) e r)
-      go (Ends i) = entered {n = e} (omega arith) refl refl
-      go (Refused f p) = refuses
 
 -- an entry of EF.OD that was read up to n: its first record names a path if it is naming, and no other does
 pub record Entry (s : List ℕ) (end at : ℕ) (bs : List Rec) (n : ℕ) : Type 0 where
@@ -164,21 +81,42 @@ pub record Entry (s : List ℕ) (end at : ℕ) (bs : List Rec) (n : ℕ) : Type 
   pub bound : size bs ≤ 4 * (n - at)
   pub laid : Laid (length s) bs
 
+-- the element at a place that ends a container, by its bytes
+module _ (s : List ℕ) (small : length s ≤ 32768) where
+  tag-at : (a e t : ℕ) (c : List ℕ) → LowTag t → a ≤ e → e ≤ length s → slice a e s ≡ elementBytes (low t c) → isPath s (header s a e) ≡ eqb t 0x30
+  tag-at a e t c z h l q = rw (head-complete s small a e (low t c) [] h l (low-is t c z) (q ∙ sym (append-nil (elementBytes (low t c)))) .stands .is, low-first t c z) refl
+
+  -- what an entry's records name
+  module _ {end at n : ℕ} (l : end ≤ length s) where
+    by-item : (x : item .Of) → item .Meets x → {a e : ℕ} → Stands s at end (item .shape x) a e → e ≡ n → size (item .book x) ≤ 4 * (n - at) → Laid (length s) (item .book x) → Entry s end at (item .book x) n
+    unfolding namesOf
+    by-item (inl (t, inl path)) m {a} {e} st w b v =
+        let c = elementBytes (low 0x30 (elementBytes (low 0x04 path))) in
+        let z : firstOf (low t c) ≡ t = low-first t c (known-low t (m .0)) in
+        let q : header s at end ≡ At t a e = st .is ∙ rw z refl in
+        let p = tag-at a e 0x30 (elementBytes (low 0x04 path)) (low-tag 0x30 tt) (st .order) (omega (arith, st .inside)) (st .within) in
+        record { tag = t; from = a; head = q ∙ rw w refl; first = rec 0x0110 (t ∷ 0 ∷ path); rest = []; are = refl; quiet = refl; names = rw (q, m .0, p) refl; bound = b; laid = v }
+    by-item (inl (t, inr objects)) m {a} {e} st w b v =
+        let d = listed (object t) .part .bytes objects in
+        let c = elementBytes (low 0xa0 d) in
+        let z : firstOf (low t c) ≡ t = low-first t c (known-low t (m .0)) in
+        let q : header s at end ≡ At t a e = st .is ∙ rw z refl in
+        let p = tag-at a e 0xa0 d (low-tag 0xa0 tt) (st .order) (omega (arith, st .inside)) (st .within) in
+        record { tag = t; from = a; head = q ∙ rw w refl; first = rec 0x0110 (t ∷ 1 ∷ []); rest = flat (object t .part .book) objects; are = refl; quiet = objects-names t objects; names = rw (q, m .0, p) refl; bound = b; laid = v }
+    by-item (inr x) m {a} {e} st w b v =
+        record { tag = firstOf x; from = a; head = st .is ∙ rw w refl; first = rec 0x0110 (firstOf x ∷ 2 ∷ elementBytes x); rest = []; are = refl; quiet = refl; names = rw (st .is, unknown (knownTag (firstOf x)) (contextTag (firstOf x)) (m .2) .0) refl; bound = b; laid = v }
+
 module _ (s : List ℕ) (bytes : Bytes s) (small : length s ≤ 32768) where
-  pub entry-told : (k end at : ℕ) {bs : List Rec} {ms : List ℕ} {n : ℕ} → at < end → end ≤ length s → element s (entryBody s k) end at ≡ took bs ms n → Entry s end at bs n
-  unfolding element
-  entry-told k end at {bs} {ms} {n} h l z = go (header s at end) refl (header-ok s end at bytes l (omega arith)) (rw (lt-ltb at end h) at z)
-    where
-      go : (v : Head) → header s at end ≡ v → HeadOk s end at v → whatever (entryBody s k) at v ≡ took bs ms n → Entry s end at bs n
-      go (No f p) q o y = let x : _≡_ {A = ℕ} 0 1 = cc in absurd (omega arith)
-      go (At t a e) q (goodHead i j d w) y =
-          let f = ok-facts (entry-body s bytes small k e at t a e i j (omega arith) (omega arith) w) y in
-          open-up q (omega (arith, f .bound)) (f .high) (f .laid) (rw y at (entered-body s k t at a e))
-        where
-          open-up : {cs : List Rec} {ns : List ℕ} {m : ℕ} → header s at end ≡ At t a e → size cs ≤ 4 * (m - at) → m ≤ e → Laid (length s) cs → Entered (leb 0xa0 t && leb t 0xa8 && isPath s (header s a e)) e (took cs ns m) → Entry s end at cs m
-          open-up {m = m} q b g v (entered {r = r} {rest = rest} x y u) =
-              let same : e ≡ m = omega arith in
-              record { tag = t; from = a; head = q ∙ rw same refl; first = r; rest = rest; are = refl; quiet = y; names = rw q u; bound = b; laid = v }
+  pub entry-told : (k end at : ℕ) {bs : List Rec} {ms : List ℕ} {n : ℕ} → k ≤ 128 → at < end → end ≤ length s → element s (entryBody s k) end at ≡ took bs ms n → Entry s end at bs n
+  entry-told k end at {bs} {ms} {n} m h l z =
+      let f = reads-facts (entry-law s bytes small k m .sound end at (le-of-lt h) l) z in
+      let x = f .it in
+      let g = facts-kept entry-renders l f in
+      let p = head-complete s small at end (item .shape x) (slice n end s) (le-of-lt h) l (entry-body s bytes small k m .is x (f .meets)) (f .bytes) in
+      let c : length (slice (p .e) end s) ≡ length (slice n end s) = ap length (p .left) in
+      let w : p .e ≡ n = omega (arith, c, length-slice (p .e) end s l, length-slice n end s l, f .high, p .stands .inside) in
+      let b : size bs ≤ 4 * (n - at) = omega (arith, g .bound) in
+      rw (f .book) (by-item s small l x (f .meets) (p .stands) w (rw (f .book) at b) (rw (f .book) at (g .laid)))
 
 -- the same of its records as they lie in the book
 module _ {s : List ℕ} {end at n : ℕ} {bs : List Rec} (g : Entry s end at bs n) {c : List ℕ} {p q : ℕ} (f : First c p q (g .first) (g .rest)) where

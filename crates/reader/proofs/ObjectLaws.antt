@@ -19,13 +19,14 @@ use Rattle.rules.specs.declared.table.Class.{Class}
 use Rattle.rules.specs.declared.table.ObjectType.{ObjectType}
 use Rattle.rules.specs.declared.table.Need.the-variants.{Required, Optional}
 use Rattle.rules.specs.Reading.{Res, andThen, _then_}
-use Rattle.rules.specs.Parts.{component, element, ended}
+use Rattle.rules.specs.Parts.{component, ended}
 use Rattle.rules.specs.Tables.{classOf, typeOf}
 use Rattle.rules.specs.Objects.{common, classBody, subclass, typeBody, contents, objectBody, object}
 use Rattle.reader.specs.Did.{Did, fell, Stays}
 use Rattle.reader.proofs.DidLaws.{did-then, did-ends, did-fails, element-fails, element-here}
 use Rattle.reader.proofs.ConditionLaws.{did-counts, before}
 use Rattle.rules.specs.Layouts as layouts
+use Rattle.rules.specs.Entries as entries
 
 -- ---- "tag 30 or A0 to A7"
 module _ (t : ℕ) where
@@ -91,14 +92,14 @@ module _ (s : List ℕ) (entry t at x e : ℕ) {z : Bool} (u : z ≡ (eqb t 0x30
 -- ---- an object
 module _ (s : List ℕ) (entry k end at : ℕ) where
   pub object-many : (a : List ℕ) (o : ℕ) → 128 ≤ k → Did a a o at end (object s entry k end at) (Fails ManyObjects at)
-  unfolding object
+  unfolding entries.object
   object-many a o h = rw (le-ltb k 128 h) (fell refl)
 
   module _ (l : k < 128) {h : Head} (g : h ≡ header s at end) where
     pub object-bad : (a : List ℕ) (o : ℕ) {f : Fault} {p : ℕ} → h ≡ No f p → Did a a o at end (object s entry k end at) (Fails f p)
-    unfolding object
+    unfolding entries.object objectBody
     object-bad a o q = rw (lt-ltb k 128 l) (element-fails s (objectBody s entry) end at g a o q)
 
     pub object-here : {a b : List ℕ} {o t x e : ℕ} {r : Part} → h ≡ At t x e → Did a b o x e (objectBody s entry t at x e) r → Did a b o at end (object s entry k end at) r
-    unfolding object
+    unfolding entries.object objectBody
     object-here q d = rw (lt-ltb k 128 l) (element-here s (objectBody s entry) end at g q d)

@@ -21,8 +21,8 @@ use Rattle.rules.specs.Reading.{Rec}
 use Rattle.rules.specs.Tables.{ownIdRow}
 use Rattle.rules.specs.Files.{Name, nameOf, namesOf, paths, equal, met, two, wrongAt, repeated}
 use Rattle.rules.specs.Book.{encode}
-use Rattle.rules.specs.Laws.{Laid}
-use Rattle.rules.specs.CheckLaws.{ownIds}
+use Rattle.rules.specs.LookLaws.{Laid}
+use Rattle.rules.specs.Pays.{pays, idsOf, pays-append}
 use Rattle.reader.specs.Scan.{Lies, Holds, AgainTold, clashOf, IdsTold, NextName, last, found, NameTold, Whole, behind, bears, skip, keyAt, keysOf, Spans, MetTold, RepeatTold, placedKeys, Places, Index, Indexed, Noted}
 use Rattle.reader.proofs.DidLaws.{encode-append}
 use Rattle.reader.proofs.LiesLaws.{First, Some, some, some-lie, none-lie, lie-same}
@@ -140,7 +140,7 @@ paths-chosen false n ns = refl
 
 module _ {b : List ℕ} {j end : ℕ} {r : Rec} {rest : List Rec} (f : First b j end r rest) where
   pub keys-first : (x : Key) (ws : List Rec) → keysOf x (r ∷ ws) ≡ choose (bears b x j) (λ _. keyAt b x j ∷ keysOf x ws) (λ _. keysOf x ws)
-  unfolding bears keyAt ownIds
+  unfolding bears keyAt pays
   keys-first Path ws = ap paths (names-first f ws) ∙ paths-chosen (bears b Path j) (nameAt b j) (namesOf ws)
   keys-first Own ws = rw (f .kind, f .pay) refl
 
@@ -156,7 +156,7 @@ pub unmet-none : {b : List ℕ} {i j : ℕ} (x : Key) (p e : ℕ) → Holds b i 
 unmet-none x p e h = record { all = h .rs; lies = h .lies; left = h .rs; after = h .lies; same = refl }
 
 keys-none : (x : Key) → keysOf x [] ≡ []
-unfolding namesOf ownIds
+unfolding namesOf pays
 keys-none Path = refl
 keys-none Own = refl
 
@@ -221,18 +221,9 @@ names-append (r ∷ rs) ws = rw (names-append rs ws) (go (eqb (r .kind) 0x0110))
     go true = name-append (r .pay) (namesOf rs) (namesOf ws)
     go false = refl
 
-ids-append : (rs ws : List Rec) → ownIds (rs ++ ws) ≡ ownIds rs ++ ownIds ws
-unfolding ownIds
-ids-append [] ws = refl
-ids-append (r ∷ rs) ws = rw (ids-append rs ws) (go (eqb (r .kind) (ownIdRow .kind)))
-  where
-    go : (t : Bool) → choose t (λ _. r .pay ∷ (ownIds rs ++ ownIds ws)) (λ _. ownIds rs ++ ownIds ws) ≡ choose t (λ _. r .pay ∷ ownIds rs) (λ _. ownIds rs) ++ ownIds ws
-    go true = refl
-    go false = refl
-
 pub keys-append : (x : Key) (rs ws : List Rec) → keysOf x (rs ++ ws) ≡ keysOf x rs ++ keysOf x ws
 keys-append Path rs ws = ap paths (names-append rs ws) ∙ map-append (λ (n : Name). n .path) (namesOf rs) (namesOf ws)
-keys-append Own rs ws = ids-append rs ws
+keys-append Own rs ws = pays-append (ownIdRow .kind) rs ws
 
 -- what was met does not depend on the order
 met-last : (y k : List ℕ) (l : List (List ℕ)) → met y (l ++ (k ∷ [])) ≡ (equal y k || met y l)
@@ -431,7 +422,7 @@ module _ (b own : List ℕ) (c j : ℕ) {t : Bool} (e : t ≡ bears b Own j) whe
 
 -- an index of no records
 pub indexed-none : {b : List ℕ} {i end : ℕ} (own : List ℕ) → Holds b i end → 128 ≤ length own → Indexed b own i i 0
-unfolding ownIds gone-none
+unfolding pays gone-none
 indexed-none own h r = record {
   rs = [];
   lies = gone-lies (gone-none Own (h .lies));
@@ -459,9 +450,9 @@ module _ {b own : List ℕ} {i j c : ℕ} (w : Indexed b own i j c) where
       go (some {r = r} f) g = record {
         rs = g .done ++ (r ∷ []);
         lies = rw d (gone-lies (gone-next g f));
-        index = rw (keys-append Own (g .done) (r ∷ []), keys-first f Own [], keys-none Own, lie-same (gone-lies g) (w .lies)) (by-pick (bears b Own j) (x .is (ownIds (w .rs)) (w .index)));
+        index = rw (keys-append Own (g .done) (r ∷ []), keys-first f Own [], keys-none Own, lie-same (gone-lies g) (w .lies)) (by-pick (bears b Own j) (x .is (idsOf (w .rs)) (w .index)));
       }
         where
-          by-pick : (t : Bool) → Index b own′ m (ownIds (w .rs) ++ pick t (keyAt b Own j ∷ []) []) → Index b own′ m (ownIds (w .rs) ++ choose t (λ _. keyAt b Own j ∷ []) (λ _. []))
+          by-pick : (t : Bool) → Index b own′ m (idsOf (w .rs) ++ pick t (keyAt b Own j ∷ []) []) → Index b own′ m (idsOf (w .rs) ++ choose t (λ _. keyAt b Own j ∷ []) (λ _. []))
           by-pick true y = y
           by-pick false y = y

@@ -3,8 +3,9 @@ use Prim.Native.Nat.{ℕ, _+_, _-_, _*_, _<_, _≤_}
 use mathlib.Core.Path.{_≡_, refl, sym, ap, _∙_}
 use mathlib.Core.List.{List, [], _++_, append-assoc}
 use native.Mathlib.Omega.{arith}
+use native.Mathlib.Nat.{le-refl}
 use lib.ListN.{length, take}
-use lib.Seq.{length-take-le}
+use lib.Seq.{slice, length-slice, length-take-le}
 use borrow.Author.Tests.{lt-ltb, le-ltb, le-leb, lt-leb}
 use Rattle.elements.specs.declared.fault.Fault.{Fault}
 use Rattle.elements.specs.declared.fault.Fault.the-variants.{DumpSize, PathTwice, AuthIdTwice}
@@ -28,12 +29,14 @@ use Rattle.reader.specs.declared.frame.Chain.the-variants.{Sound, Unsoun
 use Rattle.rules.specs.declared.outcome.Outcome.{Outcome}
 use Rattle.rules.specs.declared.outcome.Outcome.the-variants.{Accepted, Refused}
 use Rattle.rules.specs.Reading.{Rec, Res, took}
-use Rattle.rules.specs.Files.{File, files, frames, namesOf, paths, firstAgain, follow, directories, repeated, cia, od, accepted, refused, Answer, onRes, onCheck, frame, readFiles, readParts, readDump}
+use Rattle.rules.specs.Files.{File, files, frames, namesOf, paths, firstAgain, follow, directories, repeated, cia, od, accepted, Answer, onRes, onCheck, frame, readFiles, readParts, readDump}
 use Rattle.rules.specs.Book.{encode}
-use Rattle.rules.specs.Laws.{Laid, size, laid-append}
-use Rattle.rules.specs.FileLaws.{cia-law, od-law}
-use Rattle.rules.specs.DumpLaws.{files-bound, ok-facts}
-use Rattle.rules.specs.WriteLaws.{book-size}
+use Rattle.rules.specs.LookLaws.{Laid, size, laid-append}
+use Rattle.rules.specs.ReadLaws.{cia-kept, od-kept}
+use Rattle.cards.specs.Card as card
+use Rattle.cards.specs.DumpLaws.{dirs-read}
+use Rattle.cards.specs.CardRender.{files-renders}
+use Rattle.rules.specs.BookLaws.{book-size}
 use Rattle.reader.specs.Did.{Did, did, fell, DidObjects, fellObjects, objectsOf, DidEntries, PathsTold}
 use Rattle.reader.specs.Scan.{Lies, Holds, IdsTold, clashOf}
 use Rattle.reader.specs.Frame.{framedAs, Inner, FramesTold}
@@ -116,7 +119,12 @@ module _ {s a : List ℕ} {stop i end : ℕ} {u : List ℕ} {k : ℕ} (op : Open
         module _ (bytes : Bytes s) {q n j : ℕ} (y : x ≡ many.Took q n j) where
           module _ {fs : List File} {cs : List Rec} {ms : List ℕ} (c : frames s (length s) stop ≡ files fs) (l : Opening s stop a i end u k cs ms) (f : FilesOpen d y fs cs) where
             bounded : (size (f .ds) ≤ 4 * (length s - stop)) × Laid (length s) (f .ds)
-            bounded = files-bound s bytes (op .frame .small) (namesOf cs) fs (length s) stop k (op .frame .high) c (g .is cs fs (length s) (l .lies) c ∙ ap followedAs z) (f .are)
+            bounded =
+                let x = dirs-read s bytes (op .frame .small) (namesOf cs) fs (length s) stop k (op .frame .high) (l .few) c (g .is cs fs (length s) (l .lies) c ∙ ap followedAs z) (f .are) in
+                let m : length (slice stop (length s) s) ≡ length s - stop = length-slice stop (length s) s (le-refl (length s)) in
+                let r = files-renders (namesOf cs) in
+                let n : length (card.files (namesOf cs) .bytes (x .it)) ≡ length s - stop = ap length (sym (x .bytes)) ∙ m in
+                (rw (x .book) (omega (arith, r .bound (x .it) (x .meets))), rw (x .book) (r .laid (x .it) (x .meets) (length s) (omega arith)))
 
             fits : n ≤ length a
             fits = omega (arith, f .put .at, book-size (f .ds), bounded .0, l .room, op .frame .high, op .frame .small, op .frame .wide)
@@ -165,7 +173,7 @@ module _ {s a b u v : List ℕ} {start stop i : ℕ} (h : Framing s start stop a
     entries-open : EntriesOpen
     entries-open =
         let x = objects-open (rw z at (d .objects)) in
-        let f = ok-facts (od-law s bytes (h .small) stop start (h .low) (h .high)) (x .2) in
+        let f = od-kept s bytes (h .small) stop start (h .low) (h .high) (x .2) in
         let r : end ≤ 4 * stop = omega (arith, x .3 .at, book-size (x .0), f .bound, f .low, f .high) in
         let t : end ≤ length a = omega (arith, h .high, h .small, h .wide) in
         let e : k ≤ 128 = objects-few (d .objects) (ap objectsOf z) in
@@ -222,7 +230,7 @@ module _ {s a b : List ℕ} {from to start stop : ℕ} (h : Framing s start stop
     pub info-room : i + 3 ≤ 4 * start
     info-room =
         let x = info-open in
-        let f = ok-facts (cia-law s bytes (h .small) to from mid (omega (arith, h .low, h .high))) (x .are) in
+        let f = cia-kept s bytes (h .small) to from mid (omega (arith, h .low, h .high)) (x .are) in
         omega (arith, x .put .at, book-size (x .bs), f .bound, f .low, f .high)
 
     pub info-framing : Framing s start stop b

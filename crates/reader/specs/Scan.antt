@@ -16,8 +16,8 @@ use Rattle.rules.specs.Reading.{Rec}
 use Rattle.rules.specs.Tables.{ownIdRow}
 use Rattle.rules.specs.Files.{Name, namesOf, paths, met, two, Check, fine, wrongAt, repeated}
 use Rattle.rules.specs.Book.{encode}
-use Rattle.rules.specs.Laws.{Laid}
-use Rattle.rules.specs.CheckLaws.{ownIds}
+use Rattle.rules.specs.LookLaws.{Laid}
+use Rattle.rules.specs.Pays.{idsOf}
 
 -- from i to `end` b holds just the records rs
 pub record Lies (b : List ℕ) (i end : ℕ) (rs : List Rec) : Type 0 where
@@ -75,7 +75,7 @@ keyAt b x j = slice (j + skip x) (behind b j) b
 -- the keys that records bear
 abbrev pub keysOf : Key → List Rec → List (List ℕ)
 keysOf Path rs = paths (namesOf rs)
-keysOf Own rs = ownIds rs
+keysOf Own rs = idsOf rs
 
 -- from p to e there are bytes of b
 pub record Spans (b : List ℕ) (p e : ℕ) : Type 0 where
@@ -114,7 +114,7 @@ pub record Index (b own : List ℕ) (c : ℕ) (ids : List (List ℕ)) : Type 0 w
 pub record Indexed (b own : List ℕ) (i j c : ℕ) : Type 0 where
   pub rs : List Rec
   pub lies : Lies b i j rs
-  pub index : Index b own c (ownIds rs)
+  pub index : Index b own c (idsOf rs)
 
 -- the index has the own authId of the record at j as well, if it bears one
 pub record Noted (b own own′ : List ℕ) (c j r : ℕ) : Type 0 where

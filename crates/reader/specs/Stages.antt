@@ -10,7 +10,7 @@ use Rattle.rules.specs.declared.outcome.Outcome.the-variants.{Accepted, Refused
 use Rattle.rules.specs.Reading.{Rec}
 use Rattle.rules.specs.Files.{File, files, frames, Answer, accepted, refused, onRes, od, namesOf, paths, readFiles, readParts}
 use Rattle.rules.specs.Book.{encode}
-use Rattle.rules.specs.Laws.{Laid}
+use Rattle.rules.specs.LookLaws.{Laid}
 use Rattle.reader.specs.Did.{PathsTold}
 use Rattle.reader.specs.Scan.{Lies}
 

@@ -101,7 +101,7 @@ fn condition_as(
     o: usize,
 ) -> Part
     requires { ⌜ InElement (now s) at a e o ⌝ }
-    ensures { λ r. ⌜ Did (now (out .entry)) (now (out .exit)) o a e (conditionAs (now (s .entry)) (λ j f i. condition (now (s .entry)) levels j f i) x t at a e) r ⌝ }
+    ensures { λ r. ⌜ Did (now (out .entry)) (now (out .exit)) o a e (conditionAs (now (s .entry)) levels x t at a e) r ⌝ }
 {
     match x {
         Sort::Always => Part::Took(e, put_bare(out, o, 0x0126)),
@@ -118,7 +118,7 @@ fn condition_as(
 // "A0 not, one inside".
 fn negated(s: &[u8], levels: usize, at: usize, a: usize, e: usize, out: &mut [u8], o: usize) -> Part
     requires { ⌜ InElement (now s) at a e o ⌝ }
-    ensures { λ r. ⌜ Did (now (out .entry)) (now (out .exit)) o a e (conditionAs (now (s .entry)) (λ j f i. condition (now (s .entry)) levels j f i) Not 0 at a e) r ⌝ }
+    ensures { λ r. ⌜ Did (now (out .entry)) (now (out .exit)) o a e (conditionAs (now (s .entry)) levels Not 0 at a e) r ⌝ }
 {
     let q = put_bare(out, o, 0x0129);
     match condition(s, levels, 0, e, a, out, q) {

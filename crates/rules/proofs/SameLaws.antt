@@ -9,7 +9,7 @@ use lib.Seq.{slice, slice-empty, length-slice}
 use borrow.Author.Tests.{eq-eqb, ne-eqb}
 use Rattle.elements.specs.Lists.{cons}
 use Rattle.rules.specs.Files.{equal}
-use Rattle.rules.specs.DumpLaws.{equal-is}
+use Rattle.rules.specs.EqualLaws.{equal-is}
 
 -- the loop of `same_bytes`: what is left decides
 pub record Same (s t : List ℕ) (j l x y : ℕ) (v : Bool) : Type 0 where

@@ -4,13 +4,15 @@ use mathlib.Core.Path.{_≡_, refl, sym, ap, _∙_}
 use mathlib.Core.Bool.{false}
 use mathlib.Core.List.{List, [], _∷_}
 use native.Mathlib.Omega.{arith}
-use lib.ListN.{length, getD, take, drop, length-drop, drop-of-length-le, List·getD-eq-default}
+use lib.ListN.{length, getD, take, drop, length-append, length-drop, drop-of-length-le, List·getD-eq-default}
 use lib.Seq.{slice, take-all, drop-cons, drop-drop, drop-length, getD-drop, getD-take, length-slice}
 use lib.Dec.{eqb}
 use Rattle.elements.specs.Lists.{lent}
 use Rattle.rules.specs.Reading.{Rec, rec}
 use Rattle.rules.specs.Files.{two}
-use Rattle.rules.specs.Book.{recordsOf, records, recordsFrom, Ends, nextIs}
+use Rattle.elements.specs.Record.{recordBytes}
+use Rattle.rules.specs.LookLaws.{size}
+use Rattle.rules.specs.Book.{encode, recordsOf, records, recordsFrom, Ends, nextIs}
 
 -- enough turns are enough
 enough : (g h : ℕ) (l : List ℕ) → length l ≤ g → length l ≤ h → recordsOf g l ≡ recordsOf h l
@@ -109,3 +111,9 @@ one-end {b} {i} {e} {f} h g =
     let w : rec (two b (i + 2)) (slice (i + 4) e b) ≡ rec (two b (i + 2)) (slice (i + 4) f b) = cc in
     let n : e - (i + 4) ≡ f - (i + 4) = sym (length-slice (i + 4) e b (h .high)) ∙ ap (λ (r : Rec). length (r .pay)) w ∙ length-slice (i + 4) f b (g .high) in
     omega (arith, n, h .low, g .low)
+
+-- the book's length
+pub book-size : (rs : List Rec) → length (encode rs) ≡ size rs
+unfolding encode recordBytes
+book-size [] = refl
+book-size (r ∷ rs) = omega (arith, length-append (r .pay) (encode rs), book-size rs)

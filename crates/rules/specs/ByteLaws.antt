@@ -3,21 +3,20 @@ use Prim.Native.Nat.{ℕ, zero, suc, _+_, _-_, _*_, _%_}
 use mathlib.Core.List.{List, [], _∷_, _++_}
 use mathlib.Core.Bool.{Bool, true, false}
 use native.Mathlib.Omega.{arith}
-use lib.ListN.{length, getD, take, drop}
-use lib.Dec.{ltb, eqb}
+use lib.ListN.{length, take, drop}
+use lib.Dec.{eqb}
 use Rattle.elements.specs.Choice.{choose}
 use Rattle.rules.specs.Reading.{Rec}
 use Rattle.elements.specs.Record.{recordBytes}
 use Rattle.elements.specs.Lists.{Bytes}
 use Rattle.rules.specs.Book.{laid, recordsOf, records}
 use Rattle.rules.specs.Files.{Name, nameOf, namesOf}
-use Rattle.elements.specs.Length.{wrap}
 use Rattle.rules.specs.Render.{rCia, rOd, rDirectory, framing, rDirectories, used, render}
 use Rattle.rules.specs.Layouts as layouts
 use Rattle.rules.specs.Layouts.{cia-fine}
 use Rattle.rules.specs.FileLayouts as filing
 use Rattle.rules.specs.FileLayouts.{od-fine, directory-fine}
-use Rattle.rules.specs.Bytewise.{AllB, Outs, PayB, all-b′, b-append, b-drop, b-get, fill-b, from-b, next-b, out, out-test, within-b, wrap-b}
+use Rattle.rules.specs.Bytewise.{AllB, Outs, PayB, b-append, b-drop, b-get}
 
 cia-b : Outs rCia
 cia-b = layouts.cia .lawful cia-fine .clean

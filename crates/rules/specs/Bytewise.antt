@@ -4,43 +4,48 @@ use mathlib.Core.List.{List, [], _∷_, _++_}
 use mathlib.Core.Bool.{Bool, true, false, _&&_}
 use native.Mathlib.Omega.{arith}
 use lib.ListN.{length, getD, drop, replicate}
-use lib.Dec.{ltb, eqb, T, ltb→lt}
+use lib.Dec.{ltb, eqb, T}
 use borrow.Author.Tests.{ltb-true}
 use Rattle.elements.specs.Choice.{choose}
 use Rattle.elements.specs.Sealed.{among}
-use Rattle.rules.specs.declared.table.Sort.{Sort}
-use Rattle.rules.specs.declared.table.Sort.the-variants.{Always, Identifier, Not, And, Or, Other}
 use Rattle.rules.specs.Reading.{Rec, count, number}
-use Rattle.elements.specs.ChoiceLaws.{by-choose, by-pick, by-less}
+use Rattle.elements.specs.ChoiceLaws.{all-both, by-choose, by-pick, by-less}
 use Rattle.elements.specs.Boolean.{booleanBytes}
-use Rattle.elements.specs.Integer.{digit, spread, integerBytes}
+use Rattle.elements.specs.Integer.{most, digit, spread, integerBytes}
 use Rattle.elements.specs.SpreadLaws.{spread-small, spread-more}
 use Rattle.elements.specs.Bits.{width, flagRun, flagBytes}
 use Rattle.elements.specs.BitsLaws.{reversed-small}
 use Rattle.rules.specs.declared.table.Row.{Row}
 use Rattle.elements.specs.declared.answer.Form.{Form}
 use Rattle.elements.specs.declared.answer.Form.the-variants as form
-use Rattle.rules.specs.Tables.{tagOf, kindOf, sortBy}
 use Rattle.elements.specs.Length.{shortest, wrap}
-use Rattle.rules.specs.Rendering.{Rendered, gives, Renderer, nothing, _next_, within, when, either, from, plain, unvalue, rRow, rRows, rKeep, rMany, rAll, rTimes, rConditionAs, rConditionOf, rFill}
-use Rattle.rules.specs.Laws.{and-left, and-right}
-use Rattle.rules.specs.Conditions as conditions
+use Rattle.rules.specs.Rendering.{Rendered, gives, Renderer, nothing, _next_, within, when, either, from, plain, unvalue, rRow, rRows, rKeep, rMany, rAll, rTimes, rFill}
+use Rattle.rules.specs.Looks.{rowsLook}
+use Rattle.rules.specs.LookLaws.{avoids}
+use Rattle.rules.specs.TestLaws.{and-left, and-right}
+use Rattle.rules.specs.ElementLaws.{lowTag, low-tag}
+use Rattle.rules.specs.RenderLaws.{rowsFit}
 
+-- bytes
 abbrev pub AllB : List ℕ → Type 0
 AllB [] = Unit {0}
 AllB (x ∷ l) = (x < 256) × AllB l
 
+-- records whose payloads are bytes
 abbrev pub PayB : List Rec → Type 0
 PayB [] = Unit {0}
 PayB (r ∷ rs) = AllB (r .pay) × PayB rs
 
+-- bytes, and such records left
 pub record Out (x : Rendered) : Type 0 where
   pub bytes : AllB (x .bytes)
   pub left : PayB (x .left)
 
+-- whatever the records
 abbrev pub Outs : Renderer → Type 0
 Outs q = (rs : List Rec) → PayB rs → Out (q rs)
 
+-- lists of bytes
 pub b-append : (l m : List ℕ) → AllB l → AllB m → AllB (l ++ m)
 b-append [] m h g = g
 b-append (x ∷ l) m h g = (h .0, b-append l m (h .1) g)
@@ -59,6 +64,7 @@ pub b-replicate : (n x : ℕ) → x < 256 → AllB (replicate n x)
 b-replicate zero x h = tt
 b-replicate (suc n) x h = (h, b-replicate n x h)
 
+-- an element's tag and length
 pub shortest-b : (n : ℕ) → AllB (shortest n)
 unfolding shortest
 shortest-b n =
@@ -134,42 +140,27 @@ pub keep-b : (kind : ℕ) → Outs (rKeep kind)
 unfolding rKeep
 keep-b kind = when-b (kind ∷ []) plain-b
 
-abbrev pub tagsFit : List Row → Bool
-tagsFit [] = true
-tagsFit (r ∷ rs) = ltb (r .tag) 256 && tagsFit rs
-
-pub rows-b : (rows : List Row) → T (tagsFit rows) → Outs (rRows rows)
+pub rows-b : (rows : List Row) → T (rowsFit rows) → Outs (rRows rows)
 unfolding rRows rRow
 rows-b [] t = nothing-b
-rows-b (r ∷ rows) t = next-b (when-b (r .kind ∷ []) (within-b (r .tag) (ltb→lt (r .tag) 256 (and-left (ltb (r .tag) 256) (tagsFit rows) t)) (from-b (λ k p a rs h. out (value-b (r .form) p a) h)))) (rows-b rows (and-right (ltb (r .tag) 256) (tagsFit rows) t))
+rows-b (r ∷ rows) t =
+    let a = all-both (lowTag (r .tag) && (ltb (r .high) most && ltb (r .kind) 65536)) (avoids (rowsLook rows .first) (r .kind ∷ []) && rowsFit rows) t in
+    let b = low-tag (r .tag) (and-left (lowTag (r .tag)) (ltb (r .high) most && ltb (r .kind) 65536) (a .0)) in
+    next-b (when-b (r .kind ∷ []) (within-b (r .tag) (b .byte) (from-b (λ k p a rs h. out (value-b (r .form) p a) h)))) (rows-b rows (and-right (avoids (rowsLook rows .first) (r .kind ∷ [])) (rowsFit rows) (a .1)))
 
 pub many-b : {q : Renderer} (ks : List ℕ) → Outs q → (g : ℕ) → Outs (rMany ks q g)
 unfolding rMany
 many-b ks f zero = λ rs h. out tt h
 many-b ks f (suc g) = when-b ks (next-b f (many-b ks f g))
 
-pub all-b′ : {q : Renderer} (ks : List ℕ) → Outs q → Outs (rAll ks q)
+pub all-b : {q : Renderer} (ks : List ℕ) → Outs q → Outs (rAll ks q)
 unfolding rAll
-all-b′ ks f rs h = many-b ks f (length rs) rs h
+all-b ks f rs h = many-b ks f (length rs) rs h
 
 pub times-b : {q : Renderer} (k : ℕ) → Outs q → Outs (rTimes k q)
 unfolding rTimes
 times-b zero f = nothing-b
 times-b (suc k) f = next-b f (times-b k f)
-
-pub condition-as : (q : Renderer) → Outs q → (x : Sort) (p : List ℕ) → AllB p → Outs (rConditionAs q x p)
-unfolding rConditionAs
-condition-as q f Always p a = λ rs h. out (wrap-b (tagOf Always) [] (omega arith) tt) h
-condition-as q f Identifier p a = λ rs h. out (wrap-b (tagOf Identifier) p (omega arith) a) h
-condition-as q f Not p a = within-b (tagOf Not) (omega arith) f
-condition-as q f And p a = within-b (tagOf And) (omega arith) (times-b (count p) f)
-condition-as q f Or p a = within-b (tagOf Or) (omega arith) (times-b (count p) f)
-condition-as q f Other p a = λ rs h. out a h
-
-pub condition-b : (l : ℕ) → Outs (conditions.condition l .render)
-unfolding conditions.condition rConditionOf
-condition-b zero = nothing-b
-condition-b (suc l) = from-b (λ k p a rs h. condition-as (λ x. conditions.condition l .render x) (condition-b l) (sortBy kindOf k) p a rs h)
 
 pub fill-b : (kind : ℕ) → Outs (rFill kind)
 unfolding rFill

@@ -17,7 +17,7 @@ use Rattle.rules.specs.Tables.{pathRows, indexRow, lengthRow, passwordRo
 use Rattle.rules.specs.Rulings.{has, same, paired, flagged}
 use Rattle.rules.specs.ValueLaws.{number-le32}
 use Rattle.rules.specs.Grammar.{Part, _and_, optional, tagged, rest, fields}
-use Rattle.rules.specs.Layout.{Judges, passes, refuses, Checks}
+use Rattle.rules.specs.Lawful.{Judges, passes, refuses, Checks}
 
 no-refusal : {A : Type 0} (f : Fault) (p : ℕ) (bs : List Rec) (ms : List ℕ) (n : ℕ) → fails f p ≡ took bs ms n → A
 no-refusal f p bs ms n e = let z : _≡_ {A = ℕ} 0 1 = cc in absurd (omega arith)

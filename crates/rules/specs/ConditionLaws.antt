@@ -1,105 +1,122 @@
 -- Conditions are read as they are, and only so.
 use Prim.Native.Nat.{ℕ, zero, suc, _+_, _-_, _≤_, _<_}
 use mathlib.Core.List.{List, [], _∷_, append-nil}
-use mathlib.Core.Bool.{Bool, true, false, not, _||_, _&&_}
-use mathlib.Core.Logic.{inl, inr}
-use mathlib.Core.Option.{none}
-use mathlib.Core.Path.{_≡_, refl, sym, _∙_}
+use mathlib.Core.Bool.{Bool, true, false, _&&_}
+use mathlib.Core.Path.{_≡_, refl, sym, ap, subst, _∙_}
 use native.Mathlib.Omega.{arith}
 use native.Mathlib.Nat.{le-refl}
 use lib.ListN.{length}
-use lib.Seq.{slice-empty}
+use lib.Seq.{slice, slice-empty}
 use lib.Dec.{ltb, leb, eqb}
-use borrow.Author.Tests.{ltb-true, ltb-false, lt-ltb, le-ltb, leb-true, le-leb}
-use Rattle.elements.specs.declared.fault.Fault.the-variants.{BadNull, BadSize}
+use borrow.Author.Tests.{ltb-true, ltb-false, lt-ltb, le-ltb, leb-true, le-leb, eqb-true, eq-eqb}
+use Rattle.elements.specs.declared.fault.Fault.the-variants.{BadSize}
 use Rattle.elements.specs.Choice.{choose}
 use Rattle.elements.specs.ChoiceLaws.{by-choose}
 use Rattle.elements.specs.Lists.{Bytes}
 use Rattle.elements.specs.Put.{le16}
+use Rattle.rules.specs.declared.table.Sort.{Sort}
 use Rattle.rules.specs.declared.table.Sort.the-variants.{Always, Identifier, Not, And, Or, Other}
-use Rattle.rules.specs.Reading.{Rec, rec, Res, took, fails, also, _then_, Reader, Body}
+use Rattle.rules.specs.Reading.{rec, Res, Body}
 use Rattle.rules.specs.Parts as parts
-use Rattle.rules.specs.Parts.{counted, repeat, toEnd, inside}
-use Rattle.rules.specs.Tables.{tagOf, sortBy}
-use Rattle.rules.specs.Grammar.{low, elementBytes, Part, Item, empty, _and_, _or_, one, tagged, with, behind, many, sealedOne, never, raw, flat, total}
-use Rattle.rules.specs.ElementLaws.{is-end}
-use Rattle.rules.specs.GrammarLaws.{Stop, tags, close, Look, look, Reads, refuses, takes, Goes, Law, BodyLaw, Plain, PlainBody, ItemLaw, LowTag, low-tag, inside-law, ended-law, element-law, tagged-law, whole-reads, whole-goes, raw-law, by-head}
-use Rattle.rules.specs.ItemLaws.{lift-body, lift-item, narrow, or-law, behind-body, sealed-law, list-law, item-same, only-tag, tag-only}
-use Rattle.rules.specs.Rulings.{counts, quiet, listed, identified, conditionAs, conditionBody}
-use Rattle.rules.specs.Conditions as conditions
-use Rattle.rules.specs.Conditions.{anyTag, otherTag, noFront}
+use Rattle.rules.specs.Parts.{repeat, toEnd}
+use Rattle.rules.specs.Tables.{tagOf, kindOf, sortBy}
+use Rattle.rules.specs.Rulings.{counts, quiet, listed, identified}
+use Rattle.rules.specs.Grammar.{Element, firstOf, Part, Item, empty, flat, one, tagged, with, behind, many, never, raw, total}
+use Rattle.rules.specs.ElementLaws.{is-end, Stands}
+use Rattle.rules.specs.GrammarLaws.{tags, close, Stop, Look, look, Reads, refuses, takes, whole-reads, whole-goes, raw-law, Law, BodyLaw, Plain, ItemLaw, Any, inside-law, ended-law, element-law, tagged-law, shaped-reads, low-tag, low-is, LowTag, by-head}
+use Rattle.rules.specs.ItemLaws.{lift-reads, lift-body, lift-item, narrow, behind-body, sealed-law, list-law, mapped-reads, counts-reads, counts-goes}
+use Rattle.rules.specs.TestLaws.{clash}
+use Rattle.rules.specs.Conditions.{Several, Condition, Sorted, isOther, sorts, bodyBySort, bySort, condition}
 
--- conditions
 pub total-length : {A : Type 0} (xs : List A) → total (λ _. 1) xs ≡ length xs
 total-length [] = refl
 total-length (x ∷ xs) = omega (arith, total-length xs)
 
--- what is counted in a condition
-abbrev inCondition : (c : Item) → conditions.conditionOver c .Of → ℕ
-inCondition c (inl x) = 0
-inCondition c (inr (inl x)) = 0
-inCondition c (inr (inr (inl x))) = 1
-inCondition c (inr (inr (inr (inl x)))) = 0
-inCondition c (inr (inr (inr (inr (inl x))))) = 0
-inCondition c (inr (inr (inr (inr (inr x))))) = 0
-
-few : (c : Item) (x : conditions.conditionOver c .Of) → inCondition c x ≤ 1
-few c (inl x) = omega arith
-few c (inr (inl x)) = omega arith
-few c (inr (inr (inl x))) = omega arith
-few c (inr (inr (inr (inl x)))) = omega arith
-few c (inr (inr (inr (inr (inl x))))) = omega arith
-few c (inr (inr (inr (inr (inr x))))) = omega arith
-
--- none of the five
-other-is : (a b c d e : Bool) → not (a || (b || (c || (d || (e || false))))) ≡ ((((not a && not b) && not c) && not d) && not e)
-other-is true b c d e = refl
-other-is false true c d e = refl
-other-is false false true d e = refl
-other-is false false false true e = refl
-other-is false false false false true = refl
-other-is false false false false false = refl
-
 abbrev pub condLook : Look
-condLook = look anyTag false (tags [])
+condLook = look (λ _. true) false (tags [])
 
--- it counts once, whatever is counted inside it
-module _ {s : List ℕ} {P : Part} {end at : ℕ} where
-  pub counts-reads : {c : P .Of → ℕ} {j M : ℕ} {t : Stop} (k N p : ℕ) {r : Res} → k + 1 ≤ N → Reads s P c j M t end at r → Reads s P (λ _. 1) k N t end at (counts p r)
-  counts-reads k N p h refuses = refuses
-  counts-reads k N p h (takes {rs = rs} {n = n} f) = takes {rs = rs} {ms = p ∷ []} {n = n} (record { it = f .it; meets = f .meets; low = f .low; high = f .high; bytes = f .bytes; book = f .book; counted = refl; room = h; closes = f .closes })
+-- the sort that has a tag
+pub data Found (f : Sort → ℕ) (t : ℕ) : Sort → Type 0 where
+  found : {x : Sort} → t ≡ f x → Found f t x
+  other : Found f t Other
 
-pub counts-goes : {s : List ℕ} {end at : ℕ} (p : ℕ) {rs : List Rec} {m : ℕ} {w : List ℕ} {r : Res} → Goes s end at rs m w r → Goes s end at rs 1 w (counts p r)
-counts-goes p g = record { ms = p ∷ []; n = g .n; is = rw (g .is) refl; counted = refl; low = g .low; high = g .high; left = g .left }
+pub found-sort : (f : Sort → ℕ) (t : ℕ) → Found f t (sortBy f t)
+unfolding sortBy
+found-sort f t = go Always λ _. go Identifier λ _. go Not λ _. go And λ _. go Or λ _. other
+  where
+    go : (x : Sort) {y : Unit {0} → Sort} → ((u : Unit {0}) → Found f t (y u)) → Found f t (choose (eqb t (f x)) (λ _. x) y)
+    go x g = by-choose (Found f t) (eqb t (f x)) (λ _ e. found (eqb-true t (f x) e)) (λ u _. g u)
+
+-- "05 00": nothing is inside
+abbrev Bare : Sort → List ℕ → Type 0
+Bare Always c = c ≡ []
+Bare Identifier c = Unit {0}
+Bare Not c = Unit {0}
+Bare And c = Unit {0}
+Bare Or c = Unit {0}
+Bare Other c = Unit {0}
+
+abbrev OfSort : Sort → Element → Type 0
+OfSort x y = (sortBy tagOf (firstOf y) ≡ x) × Bare x (y .contents)
+
+is-other : (x : Sort) → isOther x ≡ true → x ≡ Other
+is-other Other e = refl
+is-other Always e = let z : _≡_ {A = ℕ} 0 1 = cc in absurd (omega arith)
+is-other Identifier e = let z : _≡_ {A = ℕ} 0 1 = cc in absurd (omega arith)
+is-other Not e = let z : _≡_ {A = ℕ} 0 1 = cc in absurd (omega arith)
+is-other And e = let z : _≡_ {A = ℕ} 0 1 = cc in absurd (omega arith)
+is-other Or e = let z : _≡_ {A = ℕ} 0 1 = cc in absurd (omega arith)
 
 module _ (s : List ℕ) (bytes : Bytes s) (small : length s ≤ 32768) where
-  -- "05 00"
-  abbrev nullBody : Body
-  nullBody at a e = choose (ltb a e) (λ _. fails BadNull at) (λ _. took (rec 0x0126 [] ∷ []) [] e)
+  abbrev SortLaw : Sort → Sorted → Type 0
+  SortLaw x S = ItemLaw s (S .body s) (S .item) (S .inside) 0 255 (OfSort x)
 
-  null-law : PlainBody s nullBody (behind empty (λ _. rec 0x0126 []))
-  null-law = record {
-    sound = λ at a e h l. by-choose (Reads s (behind empty (λ _. rec 0x0126 [])) (λ _. 0) 0 0 close e a) (ltb a e) (λ _ _. refuses)
-        (λ _ u. let z : a ≡ e = omega (arith, ltb-false a e u) in whole-reads (behind empty (λ _. rec 0x0126 [])) (rec 0x0126 [] ∷ []) tt tt h (rw z (slice-empty e s)) refl);
-    complete = λ at a e h l x y r q. let z : a ≡ e = is-end s a e h l q in whole-goes h (rw (le-ltb a e (omega arith)) refl);
+  -- a sort that has its tag
+  of-tag : (x : Sort) → isOther x ≡ false → (y : Element) → sortBy tagOf (firstOf y) ≡ x → firstOf y ≡ tagOf x
+  of-tag x n y e = go (sortBy tagOf (firstOf y)) e (found-sort tagOf (firstOf y))
+    where
+      go : (z : Sort) → z ≡ x → Found tagOf (firstOf y) z → firstOf y ≡ tagOf x
+      go z q (found g) = rw (← q) g
+      go z q other = absurd (clash (isOther x) (rw (← q) refl) n)
+
+  tag-law : (x : Sort) {b : Body} (P : Part) {c : P .Of → ℕ} → isOther x ≡ false → ((d : List ℕ) → Bare x d) → ((y : Element) → firstOf y ≡ tagOf x → sortBy tagOf (firstOf y) ≡ x) → LowTag (tagOf x) → BodyLaw s b P c 0 255 → ItemLaw s (λ _. b) (tagged (tagOf x) P) c 0 255 (OfSort x)
+  tag-law x P n v w z f = narrow (OfSort x) (λ y d. of-tag x n y (d .0)) (λ y d. (w y d, v (y .contents))) (tagged-law s bytes small (tagOf x) z f)
+
+  -- "05 00": its header says that nothing is inside
+  always-law : (c : Condition) → SortLaw Always (sorts c Always)
+  unfolding sortBy
+  always-law c = record {
+    sound = λ x i d end at a e st l.
+        let z : a ≡ e = is-end s a e (st .order) (omega (arith, st .inside)) (st .within ∙ d .1) in
+        let P = behind empty (λ _. rec (kindOf Always) []) in
+        shaped-reads s bytes small P (sorts c Always .item) (λ _. 0) (tagOf Always) (λ y. y) (λ _. refl) (λ _. refl) (λ _ m. m) (λ _. refl) (low-tag (tagOf Always) tt) x (of-tag Always refl x (d .0)) st
+        (lift-reads 0 255 (omega arith) (whole-reads P (rec (kindOf Always) [] ∷ []) tt tt (st .order) (rw z (slice-empty e s)) refl));
+    is = λ i y. low-is (tagOf Always) [] (low-tag (tagOf Always) tt);
+    begins = λ i y. (refl, refl);
+    complete = λ i y r end at a e st l. whole-goes (omega (arith, st .after, st .order)) refl;
   }
 
-  identified-law : PlainBody s (identified s) (raw (rec 0x0127) (λ c. length c ≤ 255))
-  unfolding identified
-  identified-law = raw-law (rec 0x0127) (λ c. length c ≤ 255) (λ n. leb n 255) BadSize (λ c. leb-true (length c) 255) (λ c. le-leb (length c) 255)
+  identifier-law : (c : Condition) → SortLaw Identifier (sorts c Identifier)
+  unfolding sortBy identified
+  identifier-law c = tag-law Identifier (raw (rec (kindOf Identifier)) (λ c. length c ≤ 255)) refl (λ _. tt) (λ y e. rw e refl) (low-tag 0x04 tt)
+      (lift-body 0 255 (omega arith) (raw-law (rec 0x0127) (λ c. length c ≤ 255) (λ n. leb n 255) BadSize (λ c. leb-true (length c) 255) (λ c. le-leb (length c) 255)))
 
-  module _ (c : Item) (inner : ℕ → Reader) (law : (k : ℕ) → k ≤ 255 → Law s (inner k) (one c) (λ _. 1) k 255 condLook) where
-    not-law : BodyLaw s (λ at a e. also (rec 0x0129 [] ∷ []) [] ((inner 0 then parts.ended s) e a)) (behind (one c) (λ _. rec 0x0129 [])) (λ _. 1) 0 255
-    not-law = behind-body (rec 0x0129 []) (inside-law (ended-law s bytes small (law 0 (omega arith))) refl)
+  other-law : (c : Condition) → SortLaw Other (sorts c Other)
+  other-law c = narrow (OfSort Other) (λ y d. rw (d .0) refl) (λ y d. (is-other (sortBy tagOf (firstOf y)) d, tt)) (lift-item 0 255 (omega arith) (sealed-law s bytes small (λ t. isOther (sortBy tagOf t)) (kindOf Other) (λ _. [])))
+
+  module _ (c : Condition) (law : (k : ℕ) → k ≤ 255 → Law s (c .read s k) (one (c .item)) (λ _. 1) k 255 condLook) where
+    not-law : SortLaw Not (sorts c Not)
+    unfolding sortBy
+    not-law = tag-law Not (behind (one (c .item)) (λ _. rec (kindOf Not) [])) refl (λ _. tt) (λ y e. rw e refl) (low-tag 0xa0 tt) (behind-body (rec (kindOf Not) []) (inside-law (ended-law s bytes small (law 0 (omega arith))) refl))
 
     abbrev listPart : ℕ → Part
-    listPart kind = behind (with (many (one c)) (λ x. (2 ≤ length x) × (length x ≤ 255))) (λ x. rec kind (le16 (length x)))
+    listPart kind = behind (with (many (one (c .item))) Several) (λ x. rec kind (le16 (length x)))
 
-    listed-reads : (kind end at e : ℕ) {r : Res} → Reads s (many (one c)) (total (λ _. 1)) 0 255 close end at r → Reads s (listPart kind) (λ _. 0) 0 255 close end at (listed kind e r)
-    listed-reads kind end at e refuses = refuses
-    listed-reads kind end at e (takes {rs = rs} {ms = ms} {n = n} f) =
+    listed-reads : (kind at e : ℕ) {r : Res} → e ≤ length s → Reads s (many (one (c .item))) (total (λ _. 1)) 0 255 close e at r → Reads s (listPart kind) (λ _. 0) 0 255 close e at (listed kind e r)
+    listed-reads kind at e l (refuses p o) = refuses p o
+    listed-reads kind at e l (takes {rs = rs} {ms = ms} {n = n} f) =
         let z : length ms ≡ length (f .it) = f .counted ∙ total-length (f .it) in
-        by-choose (Reads s (listPart kind) (λ _. 0) 0 255 close end at) (leb 2 (length ms))
+        by-choose (Reads s (listPart kind) (λ _. 0) 0 255 close e at) (leb 2 (length ms))
         (λ _ u. takes {rs = rec kind (le16 (length ms)) ∷ rs} {ms = []} {n = n} (record {
           it = f .it;
           meets = (f .meets, (omega (arith, leb-true 2 (length ms) u), omega (arith, f .room, f .counted)));
@@ -108,135 +125,136 @@ module _ (s : List ℕ) (bytes : Bytes s) (small : length s ≤ 32768) where
           bytes = f .bytes;
           book = rw (z, f .book) refl;
           counted = refl;
+          marks = tt;
           room = omega arith;
           closes = f .closes;
         }))
-        (λ _ _. refuses)
+        (λ _ _. refuses e l)
 
-    listed-goes : (kind end at e : ℕ) (x : List (c .Of)) {r : Res} → 2 ≤ length x → Goes s end at (flat (c .book) x) (total (λ _. 1) x) [] r → Goes s end at (listPart kind .book x) 0 [] (listed kind e r)
-    listed-goes kind end at e x h g =
-        let z : length (g .ms) ≡ length x = g .counted ∙ total-length x in
-        record { ms = []; n = g .n; is = rw (g .is, le-leb 2 (length (g .ms)) (omega arith), z) refl; counted = refl; low = g .low; high = g .high; left = g .left }
-
-    listed-law : (kind : ℕ) → BodyLaw s (λ at a e. listed kind e (repeat toEnd inner (e - a) 0 e a)) (listPart kind) (λ _. 0) 0 255
-    listed-law kind =
-        let f = list-law small inner law tt refl 0 (omega arith) in
+    list-body : (kind : ℕ) → BodyLaw s (λ at a e. listed kind e (repeat toEnd (λ j f i. c .read s j f i) (e - a) 0 e a)) (listPart kind) (λ _. 0) 0 255
+    list-body kind =
+        let f = list-law small (λ j f i. c .read s j f i) law tt refl 0 (omega arith) in
         record {
-          sound = λ at a e h l. listed-reads kind e a e (f .sound e a h l);
-          complete = λ at a e h l x y r q. listed-goes kind e a e x (y .1 .0) (f .complete e a h l x (y .0) (omega (arith, y .1 .1, total-length x)) [] refl (q ∙ sym (append-nil (flat (λ i. elementBytes (c .shape i)) x))));
+          sound = λ at a e i h l. listed-reads kind a e l (f .sound e a h l);
+          complete = λ at a e _ h l x y r q.
+              let n = total-length x in
+              let g = f .complete e a h l x (y .0) (omega (arith, y .1 .1)) [] refl (q ∙ sym (append-nil (flat (one (c .item) .bytes) x))) in
+              let z : length (g .ms) ≡ length x = g .counted ∙ n in
+              record { ms = []; n = g .n; is = rw (g .is, z, le-leb 2 (length x) (y .1 .0)) refl; counted = refl; low = g .low; high = g .high; left = g .left };
         }
 
-    -- the bodies, by the tag
-    abbrev bodies : ℕ → Body
-    bodies t at a e =
-        choose (eqb t 0x05) (λ _. nullBody at a e) (λ _.
-        choose (eqb t 0x04) (λ _. identified s at a e) (λ _.
-        choose (eqb t 0xa0) (λ _. also (rec 0x0129 [] ∷ []) [] ((inner 0 then parts.ended s) e a)) (λ _.
-        choose (eqb t 0xa1) (λ _. listed 0x012a e (repeat toEnd inner (e - a) 0 e a)) (λ _.
-        choose (eqb t 0xa2) (λ _. listed 0x012b e (repeat toEnd inner (e - a) 0 e a)) (λ _.
-        parts.sealed s 0x0128 [] t at a e)))))
+    sort-law : (x : Sort) → SortLaw x (sorts c x)
+    unfolding sortBy
+    sort-law Always = always-law c
+    sort-law Identifier = identifier-law c
+    sort-law Not = not-law
+    sort-law And = tag-law And (listPart (kindOf And)) refl (λ _. tt) (λ y e. rw e refl) (low-tag 0xa1 tt) (list-body (kindOf And))
+    sort-law Or = tag-law Or (listPart (kindOf Or)) refl (λ _. tt) (λ y e. rw e refl) (low-tag 0xa2 tt) (list-body (kindOf Or))
+    sort-law Other = other-law c
 
-    same-body : (nth : ℕ) → nth ≤ 255 → (t at a e : ℕ) → conditionBody s inner nth t at a e ≡ bodies t at a e
-    unfolding conditionBody conditionAs sortBy
-    same-body nth h t at a e = rw (le-ltb 255 nth h) (go (eqb t 0x05) (eqb t 0x04) (eqb t 0xa0) (eqb t 0xa1) (eqb t 0xa2))
+    -- the conditions of one list, after k others
+    abbrev here : Item
+    here = bySort (sorts c) .item
+
+    abbrev inHere : here .Of → ℕ
+    inHere i = sorts c (i .0) .inside (i .1)
+
+    few : (x : Sort) (i : sorts c x .item .Of) → sorts c x .inside i ≤ 1
+    few Always i = omega arith
+    few Identifier i = omega arith
+    few Not i = omega arith
+    few And i = omega arith
+    few Or i = omega arith
+    few Other i = omega arith
+
+    -- a header that is no bad NULL says what its sort needs
+    bare : (x : Sort) (t a e : ℕ) → a ≤ e → e ≤ length s → Found tagOf t x → (eqb t (tagOf Always) && ltb a e) ≡ false → (d : List ℕ) → slice a e s ≡ d → Bare x d
+    bare Always t a e h l (found z) q d w =
+        let o : ltb a e ≡ false = rw (eq-eqb t (tagOf Always) z) at q in
+        let z : a ≡ e = omega (arith, ltb-false a e o) in
+        sym w ∙ rw z (slice-empty e s)
+    bare Identifier t a e h l f q d w = tt
+    bare Not t a e h l f q d w = tt
+    bare And t a e h l f q d w = tt
+    bare Or t a e h l f q d w = tt
+    bare Other t a e h l f q d w = tt
+
+    not-null : (x : Sort) (i : sorts c x .item .Of) → sorts c x .item .Meets i → {end at a e : ℕ} → Stands s at end (sorts c x .item .shape i) a e → end ≤ length s → (eqb (firstOf (sorts c x .item .shape i)) (tagOf Always) && ltb a e) ≡ false
+    unfolding sortBy
+    not-null x i y {end} {at} {a} {e} st l = go (eqb (firstOf (sorts c x .item .shape i)) (tagOf Always)) refl (sort-law x .begins i y)
       where
-        go : (b5 b4 b0 b1 b2 : Bool) →
-            choose (b5 && ltb a e) (λ _. fails BadNull at) (λ _. conditionAs s inner (choose b5 (λ _. Always) (λ _. choose b4 (λ _. Identifier) (λ _. choose b0 (λ _. Not) (λ _. choose b1 (λ _. And) (λ _. choose b2 (λ _. Or) (λ _. Other)))))) t at a e) ≡
-            choose b5 (λ _. nullBody at a e) (λ _. choose b4 (λ _. identified s at a e) (λ _. choose b0 (λ _. also (rec 0x0129 [] ∷ []) [] ((inner 0 then parts.ended s) e a)) (λ _.
-            choose b1 (λ _. listed 0x012a e (repeat toEnd inner (e - a) 0 e a)) (λ _. choose b2 (λ _. listed 0x012b e (repeat toEnd inner (e - a) 0 e a)) (λ _. parts.sealed s 0x0128 [] t at a e)))))
-        go true b4 b0 b1 b2 = refl
-        go false true b0 b1 b2 = refl
-        go false false true b1 b2 = refl
-        go false false false true b2 = refl
-        go false false false false true = refl
-        go false false false false false = refl
+        go : (b : Bool) → eqb (firstOf (sorts c x .item .shape i)) (tagOf Always) ≡ b → OfSort x (sorts c x .item .shape i) → (b && ltb a e) ≡ false
+        go false q d = refl
+        go true q d =
+            let w : x ≡ Always = sym (d .0) ∙ ap (sortBy tagOf) (eqb-true (firstOf (sorts c x .item .shape i)) (tagOf Always) q) in
+            let v : sorts c x .item .shape i .contents ≡ [] = subst (λ z. Bare z (sorts c x .item .shape i .contents)) w (d .1) in
+            let z : a ≡ e = is-end s a e (st .order) (omega (arith, st .inside)) (st .within ∙ v) in
+            le-ltb a e (omega arith)
 
-    abbrev not5 : ℕ → Bool
-    not5 t = not (eqb t 0x05)
-
-    abbrev not54 : ℕ → Bool
-    not54 t = not5 t && not (eqb t 0x04)
-
-    abbrev not540 : ℕ → Bool
-    not540 t = not54 t && not (eqb t 0xa0)
-
-    abbrev not5401 : ℕ → Bool
-    not5401 t = not540 t && not (eqb t 0xa1)
-
-    -- an alternative of one tag, where others were tried before
-    alternative : {b : Body} {P : Part} {d : P .Of → ℕ} (tag : ℕ) (before : ℕ → Bool) → LowTag tag → before tag ≡ true → BodyLaw s b P d 0 255 → ItemLaw s (λ _. b) (tagged tag P) d 0 255 (λ t. before t && eqb t tag)
-    alternative tag before z g f = narrow (λ t. before t && eqb t tag) (tag-only tag before) (only-tag tag before g) (tagged-law s bytes small tag z f)
-
-    other-law : ItemLaw s (λ t at a e. parts.sealed s 0x0128 [] t at a e) (sealedOne otherTag 0x0128 noFront) (λ _. 0) 0 255 (λ t. not5401 t && not (eqb t 0xa2))
-    other-law = narrow (λ t. not5401 t && not (eqb t 0xa2))
-        (λ t e. other-is (eqb t 0x05) (eqb t 0x04) (eqb t 0xa0) (eqb t 0xa1) (eqb t 0xa2) ∙ e)
-        (λ t e. sym (other-is (eqb t 0x05) (eqb t 0x04) (eqb t 0xa0) (eqb t 0xa1) (eqb t 0xa2)) ∙ e)
-        (lift-item 0 255 (omega arith) (sealed-law s bytes small otherTag 0x0128 noFront))
-
-    bodies-law : ItemLaw s bodies (conditions.conditionOver c) (inCondition c) 0 255 anyTag
-    bodies-law =
-        or-law conditions.always (conditions.identifier or conditions.opposite c or conditions.listOf 0xa1 0x012a c or conditions.listOf 0xa2 0x012b c or sealedOne otherTag 0x0128 noFront) (inCondition c) anyTag (λ t. eqb t 0x05)
-        (alternative 0x05 anyTag (low-tag 0x05 tt) refl (lift-body 0 255 (omega arith) null-law))
-        (or-law conditions.identifier (conditions.opposite c or conditions.listOf 0xa1 0x012a c or conditions.listOf 0xa2 0x012b c or sealedOne otherTag 0x0128 noFront) (λ x. inCondition c (inr x)) not5 (λ t. eqb t 0x04)
-        (alternative 0x04 not5 (low-tag 0x04 tt) refl (lift-body 0 255 (omega arith) identified-law))
-        (or-law (conditions.opposite c) (conditions.listOf 0xa1 0x012a c or conditions.listOf 0xa2 0x012b c or sealedOne otherTag 0x0128 noFront) (λ x. inCondition c (inr (inr x))) not54 (λ t. eqb t 0xa0)
-        (alternative 0xa0 not54 (low-tag 0xa0 tt) refl not-law)
-        (or-law (conditions.listOf 0xa1 0x012a c) (conditions.listOf 0xa2 0x012b c or sealedOne otherTag 0x0128 noFront) (λ x. inCondition c (inr (inr (inr x)))) not540 (λ t. eqb t 0xa1)
-        (alternative 0xa1 not540 (low-tag 0xa1 tt) refl (listed-law 0x012a))
-        (or-law (conditions.listOf 0xa2 0x012b c) (sealedOne otherTag 0x0128 noFront) (λ x. inCondition c (inr (inr (inr (inr x))))) not5401 (λ t. eqb t 0xa2)
-        (alternative 0xa2 not5401 (low-tag 0xa2 tt) refl (listed-law 0x012b))
-        other-law))))
-
-    body-law : (nth : ℕ) → nth ≤ 255 → ItemLaw s (conditionBody s inner nth) (conditions.conditionOver c) (inCondition c) 0 255 anyTag
-    body-law nth h = item-same (same-body nth h) bodies-law
-
-    one-law : (k : ℕ) → k + 1 ≤ 255 → Law s (λ end at. counts at (parts.element s (conditionBody s inner (k + 1)) end at)) (one (conditions.conditionOver c)) (λ _. 1) k 255 condLook
-    one-law k h =
-        let f = element-law s bytes small anyTag (body-law (k + 1) h) (λ _ _. refl) in
-        record {
-          sound = λ end at i l. counts-reads k 255 at h (f .sound end at i l);
-          starts = f .starts;
-          complete = λ end at i l x y r w v e. counts-goes at (f .complete end at i l x y (omega (arith, few c x)) w v e);
-        }
+    here-law : (nth : ℕ) → nth ≤ 255 → ItemLaw s (bodyBySort (sorts c) s nth) here inHere 0 255 Any
+    unfolding bodyBySort
+    here-law nth h = record {
+      sound = λ y i _ end at a e st l.
+          let t = firstOf y in
+          let o : at ≤ length s = omega (arith, st .after, st .order, st .inside) in
+          by-choose (Reads s (one here) inHere 0 255 close e at) (eqb t (tagOf Always) && ltb a e) (λ _ _. refuses at o) (λ _ q.
+          by-choose (Reads s (one here) inHere 0 255 close e at) (ltb 255 nth) (λ _ _. refuses at o) (λ _ _.
+          mapped-reads (sorts c (sortBy tagOf t) .item) here inHere (λ j. (sortBy tagOf t, j)) (λ _. refl) (λ _. refl) (λ _ m. m) (λ _. refl)
+          (sort-law (sortBy tagOf t) .sound y i (refl, bare (sortBy tagOf t) t a e (st .order) (omega (arith, st .inside)) (found-sort tagOf t) q (y .contents) (st .within)) end at a e st l)));
+      is = λ i m. sort-law (i .0) .is (i .1) m;
+      begins = λ _ _. tt;
+      complete = λ i m r end at a e st l. rw (not-null (i .0) (i .1) m st l, le-ltb 255 nth h, sort-law (i .0) .begins (i .1) m .0) (sort-law (i .0) .complete (i .1) m r end at a e st l);
+    }
 
     -- the 256th
-    none-more : (k end at : ℕ) → 255 < k + 1 → end ≤ length s → Reads s (one (conditions.conditionOver c)) (λ _. 1) k 255 (tags []) end at (counts at (parts.element s (conditionBody s inner (k + 1)) end at))
-    unfolding parts.element conditionBody
-    none-more k end at h l =
-        by-choose (λ x. Reads s (one (conditions.conditionOver c)) (λ _. 1) k 255 (tags []) end at (counts at x)) (ltb at end)
-        (λ _ _. by-head s bytes small (λ x. Reads s (one (conditions.conditionOver c)) (λ _. 1) k 255 (tags []) end at (counts at x)) (parts.whatever (conditionBody s inner (k + 1)) at) end at l (λ _ _. refuses)
-        (λ t a e v. by-choose (λ x. Reads s (one (conditions.conditionOver c)) (λ _. 1) k 255 (tags []) end at (counts at x)) (eqb t (tagOf Always) && ltb a e) (λ _ _. refuses) (λ _ _. rw (lt-ltb 255 (k + 1) h) refuses)))
-        (λ _ _. refuses)
+    none-more : (k end at : ℕ) → 255 < k + 1 → at ≤ end → end ≤ length s → Reads s (one here) (λ _. 1) k 255 (tags []) end at (bySort (sorts c) .read s k end at)
+    unfolding parts.element bodyBySort
+    none-more k end at h i l =
+        let Z : Res → Type 0 = λ x. Reads s (one here) (λ _. 1) k 255 (tags []) end at (counts at x) in
+        by-choose Z (ltb at end)
+        (λ _ _. by-head s bytes small Z (parts.whatever (bodyBySort (sorts c) s (k + 1)) at) end at i l (λ _ p o. refuses p o)
+        (λ t a e v. by-choose Z (eqb t (tagOf Always) && ltb a e) (λ _ _. refuses at (omega arith)) (λ _ _. rw (lt-ltb 255 (k + 1) h) (refuses at (omega arith)))))
+        (λ _ _. refuses end l)
 
-    more-law : (k : ℕ) → k ≤ 255 → Law s (λ end at. counts at (parts.element s (conditionBody s inner (k + 1)) end at)) (one (conditions.conditionOver c)) (λ _. 1) k 255 condLook
-    more-law k h = go (ltb 255 (k + 1)) refl
+    by-sort-law : (k : ℕ) → k ≤ 255 → Law s (bySort (sorts c) .read s k) (one here) (λ _. 1) k 255 condLook
+    by-sort-law k h = go (ltb 255 (k + 1)) refl
       where
-        go : (b : Bool) → ltb 255 (k + 1) ≡ b → Law s (λ end at. counts at (parts.element s (conditionBody s inner (k + 1)) end at)) (one (conditions.conditionOver c)) (λ _. 1) k 255 condLook
-        go false e = one-law k (omega (arith, ltb-false 255 (k + 1) e))
+        next : (k : ℕ) → k + 1 ≤ 255 → Law s (parts.element s (bodyBySort (sorts c) s (k + 1))) (one here) inHere 0 255 condLook
+        next k h = element-law s bytes small (λ _. true) (here-law (k + 1) h) (λ _ _. refl)
+
+        go : (b : Bool) → ltb 255 (k + 1) ≡ b → Law s (bySort (sorts c) .read s k) (one here) (λ _. 1) k 255 condLook
+        go false e =
+            let z : k + 1 ≤ 255 = ltb-false 255 (k + 1) e in
+            let f = next k z in
+            record {
+              sound = λ end at i l. counts-reads k 255 at (omega arith) z (f .sound end at i l);
+              starts = f .starts;
+              complete = λ end at i l x y r w v q. counts-goes at (f .complete end at i l x y (omega (arith, few (x .0) (x .1))) w v q);
+            }
         go true e =
             let z = ltb-true 255 (k + 1) e in
             record {
-              sound = λ end at i l. none-more k end at z l;
-              starts = one-law 0 (omega arith) .starts;
+              sound = λ end at i l. none-more k end at z i l;
+              starts = next 0 (omega arith) .starts;
               complete = λ end at i l x y r w v q. absurd (omega arith);
             }
 
-  condition-law : (l k : ℕ) → k ≤ 255 → Law s (conditions.condition l .read s k) (one (conditions.condition l .item)) (λ _. 1) k 255 condLook
-  unfolding conditions.condition
+  pub condition-law : (l k : ℕ) → k ≤ 255 → Law s (condition l .read s k) (one (condition l .item)) (λ _. 1) k 255 condLook
+  unfolding condition
   condition-law zero k h = record {
-    sound = λ end at i l. by-choose (Reads s (one never) (λ _. 1) k 255 (tags []) end at) (ltb at end) (λ _ _. refuses) (λ _ _. refuses);
+    sound = λ end at i l. by-choose (Reads s (one never) (λ _. 1) k 255 (tags []) end at) (ltb at end) (λ _ _. refuses at (omega arith)) (λ _ _. refuses end l);
     starts = λ x y. absurd x;
     complete = λ end at i l x y r w v e. absurd x;
   }
-  condition-law (suc l) k h = more-law (conditions.condition l .item) (λ j f i. conditions.condition l .read s j f i) (λ j i. condition-law l j i) k h
+  condition-law (suc l) k h = by-sort-law (condition l) (condition-law l) k h
 
   quiet-reads : {P : Part} {t : Stop} {end at : ℕ} {r : Res} → Reads s P (λ _. 1) 0 255 t end at r → Reads s P (λ _. 0) 0 0 t end at (quiet r)
-  quiet-reads refuses = refuses
-  quiet-reads (takes {rs = rs} {n = n} f) = takes {rs = rs} {ms = []} {n = n} (record { it = f .it; meets = f .meets; low = f .low; high = f .high; bytes = f .bytes; book = f .book; counted = refl; room = le-refl 0; closes = f .closes })
+  quiet-reads (refuses p o) = refuses p o
+  quiet-reads (takes {rs = rs} {n = n} f) = takes {rs = rs} {ms = []} {n = n} (record { it = f .it; meets = f .meets; low = f .low; high = f .high; bytes = f .bytes; book = f .book; counted = refl; marks = tt; room = le-refl 0; closes = f .closes })
 
-  pub plain-condition : Plain s (λ end at. quiet (conditions.condition 8 .read s 0 end at)) (one (conditions.condition 8 .item)) condLook
-  plain-condition =
-      let f = condition-law 8 0 (omega arith) in
+  pub plain-condition : (l : ℕ) → Plain s (λ end at. quiet (condition l .read s 0 end at)) (one (condition l .item)) condLook
+  plain-condition l =
+      let f = condition-law l 0 (omega arith) in
       record {
         sound = λ end at h l. quiet-reads (f .sound end at h l);
         starts = f .starts;

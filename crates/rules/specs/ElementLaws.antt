@@ -1,23 +1,26 @@
 -- An element as data, and the header that is read of it.
-use Prim.Native.Nat.{ℕ, _+_, _-_, _≤_}
+use Prim.Native.Nat.{ℕ, suc, _+_, _-_, _*_, _/_, _%_, _≤_, _<_}
 use mathlib.Core.List.{List, [], _∷_, _++_, append-assoc}
-use mathlib.Core.Bool.{Bool, true, false}
+use mathlib.Core.Bool.{Bool, true, false, not, _&&_}
 use mathlib.Core.Path.{_≡_, refl, sym, ap, _∙_}
 use native.Mathlib.Omega.{arith}
 use lib.ListN.{length, take, drop, length-append}
 use lib.Seq.{slice, slice-empty, length-slice, take-at, drop-at}
-use lib.Dec.{ltb}
+use lib.Dec.{ltb, eqb, T}
+use borrow.Author.Tests.{ltb-true, lt-ltb, le-ltb, eqb-false}
 use Rattle.elements.specs.declared.answer.Head.the-variants.{At}
 use Rattle.elements.specs.declared.answer.Run.the-variants.{Ends}
+use Rattle.elements.specs.Choice.{pick}
+use Rattle.elements.specs.ChoiceLaws.{by-pick, by-less}
 use Rattle.elements.specs.Lists.{Bytes, join, Begins, begins}
-use Rattle.elements.specs.Length.{shortest, sevens, tagBytes}
+use Rattle.elements.specs.Length.{shortest, wrap, sevens, tagBytes}
 use Rattle.elements.specs.Encodings.{Der, Nested}
 use Rattle.elements.specs.Encodings as encodings
 use Rattle.elements.specs.Header.{header}
 use Rattle.elements.specs.HeaderLaws.{header-in, header-sound, header-complete}
 use Rattle.elements.specs.Sealed.{sealedRun}
 use Rattle.elements.specs.SealedLaws.{sealed-sound, sealed-complete}
-use Rattle.rules.specs.Grammar.{Element, elementBytes, firstOf, IsElement, SealedRun, over, plain, deep}
+use Rattle.rules.specs.Grammar.{Element, low, elementBytes, firstOf, IsElement, SealedRun, over, plain, deep}
 
 -- a part that is known, and what is left of its container
 pub record Parted (s : List ℕ) (at end : ℕ) (p w : List ℕ) : Type 0 where
@@ -159,3 +162,112 @@ run-sound s bytes l out at end h k q = nested-run s bytes k (sealed-sound l s ou
 
 pub run-complete : (s : List ℕ) → length s ≤ 32768 → (l : ℕ) (out : List ℕ) (at end : ℕ) → at ≤ end → end ≤ length s → SealedRun l out (slice at end s) → sealedRun l s out at end ≡ Ends end
 run-complete s small l out at end h k r = sealed-complete k (run-nested s small r at end h k refl)
+
+-- a tag of one byte
+abbrev pub lowTag : ℕ → Bool
+lowTag t = ltb t 256 && (not (eqb t 0) && not (eqb (t % 32) 31))
+
+pub record LowTag (t : ℕ) : Type 0 where
+  pub byte : t < 256
+  pub some-tag : t ≡ 0 → ⊥
+  pub short : t % 32 < 31
+
+pub low-tag : (t : ℕ) → T (lowTag t) → LowTag t
+low-tag t z = go (ltb t 256) refl (eqb t 0) refl (eqb (t % 32) 31) refl z
+  where
+    go : (a : Bool) → ltb t 256 ≡ a → (b : Bool) → eqb t 0 ≡ b → (c : Bool) → eqb (t % 32) 31 ≡ c → T (a && (not b && not c)) → LowTag t
+    go true p false q false r z = let n = eqb-false (t % 32) 31 r in record { byte = ltb-true t 256 p; some-tag = eqb-false t 0 q; short = by-less (t % 32) 31 (λ x. x) (λ x. absurd (n (omega arith))) }
+    go true p true q c r z = absurd z
+    go true p false q true r z = absurd z
+    go false p b q c r z = absurd z
+
+pub low-is : (t : ℕ) (c : List ℕ) → LowTag t → IsElement (low t c)
+low-is t c z = record { lead-fits = omega (arith, z .byte); number-fits = omega arith; some-tag = λ p q. z .some-tag (omega arith) }
+
+pub low-first : (t : ℕ) (c : List ℕ) → LowTag t → firstOf (low t c) ≡ t
+low-first t c z = rw (lt-ltb (t % 32) 31 (z .short)) (omega arith)
+
+-- the element with that first byte
+pub low-bytes : (x : Element) (t : ℕ) → LowTag t → firstOf x ≡ t → elementBytes (low t (x .contents)) ≡ elementBytes x
+unfolding elementBytes
+low-bytes x t z e = go (ltb (x .number) 31) refl e
+  where
+    go : (b : Bool) → ltb (x .number) 31 ≡ b → pick b (x .lead * 32 + x .number) (x .lead * 32 + 31) ≡ t → tagBytes (t / 32) (t % 32) ++ shortest (length (x .contents)) ++ x .contents ≡ tagBytes (x .lead) (x .number) ++ shortest (length (x .contents)) ++ x .contents
+    go true q e = let h = ltb-true (x .number) 31 q in let a : t / 32 ≡ x .lead = omega arith in let b : t % 32 ≡ x .number = omega arith in rw (a, b) refl
+    go false q e = absurd (let h : t % 32 < 31 = z .short in omega arith)
+
+-- an element of a low tag, as it is written
+pub wrap-is : (t : ℕ) (c : List ℕ) → LowTag t → elementBytes (low t c) ≡ wrap t c
+unfolding elementBytes wrap tagBytes
+wrap-is t c z = let e : t / 32 * 32 + t % 32 ≡ t = omega arith in rw (lt-ltb (t % 32) 31 (z .short), e) refl
+
+-- the shortest length field is not empty
+short-one : (n : ℕ) → 1 ≤ length (shortest n)
+unfolding shortest
+short-one n = by-pick (λ (l : List ℕ). 1 ≤ length l) (ltb n 128) (λ _. omega arith) (λ _.
+    by-pick (λ (l : List ℕ). 1 ≤ length l) (ltb n 256) (λ _. omega arith) (λ _. omega arith))
+
+-- an element has two bytes beside its contents
+pub element-long : (x : Element) → length (x .contents) + 2 ≤ length (elementBytes x)
+unfolding elementBytes
+element-long x =
+    let t = tag-is x in
+    let n = length (x .contents) in
+    let a : length (tagBytes (x .lead) (x .number)) ≡ suc (length (t .more)) = ap length (t .is) in
+    omega (arith, short-one n, length-append (tagBytes (x .lead) (x .number) ++ shortest n) (x .contents), length-append (tagBytes (x .lead) (x .number)) (shortest n))
+
+-- what follows the shortest length field
+abbrev past : List ℕ → List ℕ
+past [] = []
+past (x ∷ l) = pick (ltb x 128) l (drop (x - 128) l)
+
+past-short : (n : ℕ) (a : List ℕ) → past (shortest n ++ a) ≡ a
+unfolding shortest
+past-short n a = by-pick (λ (l : List ℕ). past (l ++ a) ≡ a) (ltb n 128) (λ t. rw t refl) (λ _. by-pick (λ (l : List ℕ). past (l ++ a) ≡ a) (ltb n 256) (λ _. refl) (λ _. refl))
+
+-- a number in seven bits a byte, after bytes that came to v, and what follows it
+abbrev unseven : ℕ → List ℕ → ℕ × List ℕ
+unseven v [] = (v, [])
+unseven v (x ∷ l) = pick (ltb x 128) (v * 128 + x, l) (unseven (v * 128 + (x - 128)) l)
+
+unseven-sevens : (n : ℕ) (a : List ℕ) → unseven 0 (sevens n ++ a) ≡ (n, a)
+unfolding sevens
+unseven-sevens n a =
+    let b : ltb (n % 128) 128 ≡ true = lt-ltb (n % 128) 128 (omega arith) in
+    let c : ltb (128 + n / 128) 128 ≡ false = le-ltb (128 + n / 128) 128 (omega arith) in
+    let d : ltb (128 + n / 128 % 128) 128 ≡ false = le-ltb (128 + n / 128 % 128) 128 (omega arith) in
+    let e : ltb (128 + n / 16384) 128 ≡ false = le-ltb (128 + n / 16384) 128 (omega arith) in
+    by-pick (λ (l : List ℕ). unseven 0 (l ++ a) ≡ (n, a)) (ltb n 128) (λ t. rw t (is (omega arith))) (λ _.
+    by-pick (λ (l : List ℕ). unseven 0 (l ++ a) ≡ (n, a)) (ltb n 16384) (λ _. rw (c, b) (is (omega arith))) (λ _. rw (e, d, b) (is (omega arith))))
+  where
+    is : {k : ℕ} → k ≡ n → _≡_ {A = ℕ × List ℕ} (k, a) (n, a)
+    is e = rw e refl
+
+-- a tag, and what follows it
+abbrev untag : List ℕ → ℕ × (ℕ × List ℕ)
+untag [] = (0, (0, []))
+untag (x ∷ l) = (x / 32, pick (ltb (x % 32) 31) (x % 32, l) (unseven 0 l))
+
+untag-tag : (k n : ℕ) (a : List ℕ) → untag (tagBytes k n ++ a) ≡ (k, (n, a))
+unfolding tagBytes
+untag-tag k n a = by-pick (λ (l : List ℕ). untag (l ++ a) ≡ (k, (n, a))) (ltb n 31)
+    (λ t.
+    let h = ltb-true n 31 t in
+    let d : (k * 32 + n) / 32 ≡ k = omega arith in
+    let m : (k * 32 + n) % 32 ≡ n = omega arith in
+    rw (d, m, t) refl)
+    (λ _.
+    let d : (k * 32 + 31) / 32 ≡ k = omega arith in
+    let m : (k * 32 + 31) % 32 ≡ 31 = omega arith in
+    rw (d, m, unseven-sevens n a) refl)
+
+untag-element : (x : Element) → untag (elementBytes x) ≡ (x .lead, (x .number, shortest (length (x .contents)) ++ x .contents))
+unfolding elementBytes
+untag-element x = rw append-assoc (untag-tag (x .lead) (x .number) (shortest (length (x .contents)) ++ x .contents))
+
+-- an element is told by its bytes
+pub same-element : (x y : Element) → elementBytes x ≡ elementBytes y → x ≡ y
+same-element x y e =
+    let g = sym (untag-element x) ∙ ap untag e ∙ untag-element y in
+    let c : x .contents ≡ y .contents = sym (past-short (length (x .contents)) (x .contents)) ∙ ap (λ t. past (t .1 .1)) g ∙ past-short (length (y .contents)) (y .contents) in
+    λ i. record { lead = g i .0; number = g i .1 .0; contents = c i }

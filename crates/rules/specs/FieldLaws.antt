@@ -28,7 +28,7 @@ use Rattle.rules.specs.declared.table.Row.{Row}
 use Rattle.rules.specs.Reading.{rec, took}
 use Rattle.rules.specs.Parts.{Val, good, wrong, isDefault, inBounds, payload, judged, valued, rowBody, components}
 use Rattle.rules.specs.ValueLaws.{bytes-slice}
-use Rattle.rules.specs.Laws.{and-left, and-right}
+use Rattle.rules.specs.TestLaws.{and-left, and-right}
 use Rattle.rules.specs.Grammar.{Worth, contentsOf, payOf, NotDefault, Within, Fine, field, fields}
 use Rattle.rules.specs.GrammarLaws.{tags, close, Look, look, Reads, refuses, Plain, PlainBody, clear, seqLook, seq, none-law, lowTag, low-tag, slotLook, whole-reads, whole-goes, component-law}
 
@@ -106,17 +106,17 @@ rowsClear [] = true
 rowsClear (r ∷ rs) = (lowTag (r .tag) && ltb (r .high) most) && (clear (rowsLook rs .first) (slotLook (r .need) (r .tag) .stop) && rowsClear rs)
 
 module _ (s : List ℕ) (bytes : Bytes s) (small : length s ≤ 32768) where
-  valued-reads : (r : Row) (at a e : ℕ) → a ≤ e → {v : Val} → Judged (r .form) r (slice a e s) v → Reads s (field r) (λ _. 0) 0 0 close e a (valued r at e v)
-  valued-reads r at a e h bad = refuses
-  valued-reads r at a e h (fine {p = p} v w q z) = whole-reads (field r) (rec (r .kind) p ∷ []) v w h q (rw z refl)
+  valued-reads : (r : Row) (at a e : ℕ) → at ≤ length s → a ≤ e → {v : Val} → Judged (r .form) r (slice a e s) v → Reads s (field r) (λ _. 0) 0 0 close e a (valued r at e v)
+  valued-reads r at a e o h bad = refuses at o
+  valued-reads r at a e o h (fine {p = p} v w q z) = whole-reads (field r) (rec (r .kind) p ∷ []) v w h q (rw z refl)
 
-  row-sound : (r : Row) → r .high < most → (at a e : ℕ) → a ≤ e → e ≤ length s → Reads s (field r) (λ _. 0) 0 0 close e a (rowBody s r at a e)
+  row-sound : (r : Row) → r .high < most → (at a e : ℕ) → at ≤ a → a ≤ e → e ≤ length s → Reads s (field r) (λ _. 0) 0 0 close e a (rowBody s r at a e)
   unfolding rowBody
-  row-sound r m at a e h l = go (value (r .form) (slice a e s)) refl
+  row-sound r m at a e i h l = go (value (r .form) (slice a e s)) refl
     where
       go : (v : Value) → value (r .form) (slice a e s) ≡ v → Reads s (field r) (λ _. 0) 0 0 close e a (valued r at e (judged r (slice a e s) v))
-      go (Wrong f) q = refuses
-      go (Of n x) q = valued-reads r at a e h (judges (r .form) r (slice a e s) n x m (value-sound (r .form) (slice a e s) (bytes-slice a e s bytes) q))
+      go (Wrong f) q = refuses at (omega arith)
+      go (Of n x) q = valued-reads r at a e (omega arith) h (judges (r .form) r (slice a e s) n x m (value-sound (r .form) (slice a e s) (bytes-slice a e s bytes) q))
 
   row-complete : (r : Row) → r .high < most → (at a e : ℕ) → a ≤ e → (v : Worth (r .form)) → Fine (r .form) r v → slice a e s ≡ contentsOf (r .form) v → rowBody s r at a e ≡ took (rec (r .kind) (payOf (r .form) v) ∷ []) [] e
   unfolding rowBody
@@ -125,7 +125,7 @@ module _ (s : List ℕ) (bytes : Bytes s) (small : length s ≤ 32768) where
   row-law : (r : Row) → r .high < most → PlainBody s (rowBody s r) (field r)
   row-law r m = record {
     sound = row-sound r m;
-    complete = λ at a e h l v w _ q. whole-goes h (row-complete r m at a e h v w q);
+    complete = λ at a e _ h l v w _ q. whole-goes h (row-complete r m at a e h v w q);
   }
 
   pub fields-law : (rs : List Row) → T (rowsClear rs) → Plain s (components s rs) (fields rs) (rowsLook rs)

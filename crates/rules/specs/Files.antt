@@ -1,23 +1,24 @@
 -- "House records" and "Refusals and their places" of document 01: files, their frames, and the whole dump.
 use Prim.Native.Nat.{ℕ, zero, suc, _+_, _-_, _*_}
 use mathlib.Core.List.{List, [], _∷_, _++_, map}
-use mathlib.Core.Bool.{Bool, true, false, _||_, _&&_, not}
+use mathlib.Core.Bool.{Bool, true, false, _||_, _&&_}
 use lib.ListN.{length, getD, drop}
 use lib.Seq.{slice}
 use lib.Dec.{ltb, leb, eqb}
 use Rattle.elements.specs.declared.fault.Fault.{Fault}
-use Rattle.elements.specs.declared.fault.Fault.the-variants.{DumpSize, RecordBroken, RecordMissing, RecordKind, FileLength, PathLength, PathTwice, FileDiffers, FileMissing, FileExtra, AuthIdTwice, BadSize, NotDue}
+use Rattle.elements.specs.declared.fault.Fault.the-variants.{DumpSize, RecordBroken, RecordMissing, RecordKind, FileLength, PathLength, PathTwice, FileDiffers, FileMissing, FileExtra, AuthIdTwice}
 use Rattle.elements.specs.declared.answer.Head.{Head}
 use Rattle.elements.specs.declared.answer.Head.the-variants.{At, No}
 use Rattle.elements.specs.Choice.{choose}
 use Rattle.elements.specs.Header.{header}
 use Rattle.rules.specs.declared.table.Need.the-variants.{Required}
-use Rattle.rules.specs.Reading.{Rec, rec, Res, took, fails, also, _then_, Reader, Body}
-use Rattle.rules.specs.Parts.{component, ended, element, sealed, repeat, toEnd, counted}
+use Rattle.rules.specs.Reading.{Rec, Res, took, fails, Reader, Body}
+use Rattle.rules.specs.Parts.{component, counted}
 use Rattle.rules.specs.Tables.{ownIdRow}
 pub use Rattle.rules.specs.Fills.{toFill, beforeFill, onlyFill}
 unfoldable pub use Rattle.rules.specs.Fills.{filled, fill}
-unfoldable pub use Rattle.rules.specs.Entries.{objects, namedPath, entryInside, entryBody}
+unfoldable pub use Rattle.rules.specs.Entries.{namedPath, entryInside, entryBody}
+unfoldable pub use Rattle.rules.specs.Objects.{objects}
 use Rattle.rules.specs.FileLayouts as filing
 use Rattle.rules.specs.Layout.{bodyOf}
 use Rattle.rules.specs.Layouts as layouts

@@ -3,10 +3,11 @@ use Prim.Native.Nat.{ℕ, zero, suc, _+_, _-_, _≤_, _<_}
 use mathlib.Core.List.{List, [], _∷_, _++_, append-nil, append-assoc}
 use mathlib.Core.Bool.{Bool, true, false, not, _||_}
 use mathlib.Core.Logic.{_⊎_, inl, inr}
+use mathlib.Core.Option.{none, some}
 use mathlib.Core.Path.{_≡_, refl, sym, ap, _∙_}
 use native.Mathlib.Omega.{arith}
 use native.Mathlib.Nat.{le-refl}
-use lib.ListN.{length, getD, replicate, length-append}
+use lib.ListN.{length, getD, replicate}
 use lib.Seq.{slice, slice-empty, length-slice}
 use lib.Dec.{ltb, eqb, T, T-not}
 use borrow.Author.Tests.{ltb-true, ltb-false, lt-ltb, le-ltb, eqb-true, eq-eqb, ne-eqb}
@@ -16,9 +17,9 @@ use Rattle.elements.specs.Lists.{Bytes, Begins, begins, cons}
 use Rattle.elements.specs.Put.{le16}
 use Rattle.rules.specs.Reading.{rec, Res, took, fails, andThen, _then_, Reader}
 use Rattle.rules.specs.Parts.{repeat, inside, surplus}
-use Rattle.rules.specs.Grammar.{Element, low, elementBytes, firstOf, IsElement, Part, _and_, one, many, rest, flat, AllMeet, total}
+use Rattle.rules.specs.Grammar.{Element, low, elementBytes, firstOf, IsElement, Part, _and_, many, rest, flat, AllMeet, total}
 use Rattle.rules.specs.ElementLaws.{is-end, head-complete}
-use Rattle.rules.specs.GrammarLaws.{Starts, without, begun, tags, close, Look, look, Reads, refuses, takes, Goes, Law, BodyLaw, Plain, seq-also, seq-reads, by-head}
+use Rattle.rules.specs.GrammarLaws.{Starts, without, begun, tags, close, Look, look, Reads, refuses, takes, Goes, then-goes, whole-reads, whole-goes, Law, BodyLaw, Plain, seq-also, seq-reads, by-head}
 use Rattle.rules.specs.ItemLaws.{lift-law, ManyReads, stopped, went, many-sound, many-complete}
 use Rattle.rules.specs.Fills as files
 use Rattle.rules.specs.Fills.{toFill, filled, beforeFill, onlyFill}
@@ -26,18 +27,18 @@ use Rattle.rules.specs.Grammar as card
 
 -- fill
 data Filled (s : List ℕ) (b g at : ℕ) : Res → Type 0 where
-  no-fill : {f : Fault} {p : ℕ} → Filled s b g at (fails f p)
+  no-fill : {f : Fault} (p : ℕ) → p ≤ length s → Filled s b g at (fails f p)
   fills : (n : ℕ) → n ≡ at + g → slice at n s ≡ replicate g b → Filled s b g at (took [] [] n)
 
 module _ (s : List ℕ) where
   fill-more : (b g at : ℕ) → at + suc g ≤ length s → getD s at 0 ≡ b → {r : Res} → Filled s b g (at + 1) r → Filled s b (suc g) at r
-  fill-more b g at h e no-fill = no-fill
+  fill-more b g at h e (no-fill p o) = no-fill p o
   fill-more b g at h e (fills n q w) = fills n (omega arith) (cons s at n (omega arith) (omega arith) ∙ rw (e, w) refl)
 
   filled-is : (b g end at : ℕ) → at + g ≤ length s → Filled s b g at (filled s b g end at)
   unfolding filled
   filled-is b zero end at h = fills at (omega arith) (slice-empty at s)
-  filled-is b (suc g) end at h = by-choose (Filled s b (suc g) at) (eqb (getD s at 0) b) (λ _ e. fill-more b g at h (eqb-true (getD s at 0) b e) (filled-is b g end (at + 1) (omega arith))) (λ _ _. no-fill)
+  filled-is b (suc g) end at h = by-choose (Filled s b (suc g) at) (eqb (getD s at 0) b) (λ _ e. fill-more b g at h (eqb-true (getD s at 0) b e) (filled-is b g end (at + 1) (omega arith))) (λ _ _. no-fill at (omega arith))
 
   filled-complete : (b g end at : ℕ) → at + g ≤ length s → slice at (at + g) s ≡ replicate g b → filled s b g end at ≡ took [] [] (at + g)
   unfolding filled
@@ -56,36 +57,26 @@ module _ (s : List ℕ) where
       go false p true q r = inr (eqb-true (getD s at 0) 0xff q)
       go false p false q r = let z : _≡_ {A = ℕ} 0 1 = cc in absurd (omega arith)
 
-  fill-part : (kind end at : ℕ) → at < end → end ≤ length s → (getD s at 0 ≡ 0) ⊎ (getD s at 0 ≡ 0xff) → {r : Res} → Filled s (getD s at 0) (end - at) at r →
+  fill-part : length s ≤ 32768 → (kind end at : ℕ) → at < end → end ≤ length s → (getD s at 0 ≡ 0) ⊎ (getD s at 0 ≡ 0xff) → {r : Res} → Filled s (getD s at 0) (end - at) at r →
       Reads s (card.fill kind) (λ _. 0) 0 0 close end at (andThen r (λ n. took (rec kind (getD s at 0 ∷ le16 (end - at)) ∷ []) [] n))
-  fill-part kind end at h l b no-fill = refuses
-  fill-part kind end at h l b (fills n q w) =
+  fill-part small kind end at h l b (no-fill p o) = refuses p o
+  fill-part small kind end at h l b (fills n q w) =
       let z : n ≡ end = omega arith in
-      let y : end - at ≡ suc (end - at - 1) = omega arith in
-      let v : slice at end s ≡ replicate (suc (end - at - 1)) (getD s at 0) = rw z at w ∙ ap (λ i. replicate i (getD s at 0)) y in
-      takes {rs = rec kind (getD s at 0 ∷ le16 (end - at)) ∷ []} {ms = []} {n = n} (record {
-        it = (getD s at 0, suc (end - at - 1));
-        meets = b;
-        low = omega arith;
-        high = omega arith;
-        bytes = rw (z, slice-empty end s) (v ∙ sym (append-nil (replicate (suc (end - at - 1)) (getD s at 0))));
-        book = ap (λ i. rec kind (getD s at 0 ∷ le16 i) ∷ []) y;
-        counted = refl;
-        room = le-refl 0;
-        closes = λ _. z;
-      })
+      rw z (whole-reads (card.fill kind) (rec kind (getD s at 0 ∷ le16 (end - at)) ∷ []) (some (getD s at 0, end - at)) (b, omega arith, omega arith) (omega arith) (rw z at w) refl)
 
-  fill-sound : (kind end at : ℕ) → at ≤ end → end ≤ length s → toFill s end at ≡ false → Reads s (card.fill kind) (λ _. 0) 0 0 close end at (files.fill s kind end at)
+  fill-sound : length s ≤ 32768 → (kind end at : ℕ) → at ≤ end → end ≤ length s → toFill s end at ≡ false → Reads s (card.fill kind) (λ _. 0) 0 0 close end at (files.fill s kind end at)
   unfolding files.fill
-  fill-sound kind end at h l e = by-choose (Reads s (card.fill kind) (λ _. 0) 0 0 close end at) (ltb at end)
-      (λ _ u. let i = ltb-true at end u in fill-part kind end at i l (stop-byte end at i e) (filled-is (getD s at 0) (end - at) end at (omega arith)))
-      (λ _ u. takes {n = at} (record { it = (0, 0); meets = inl refl; low = le-refl at; high = h; bytes = refl; book = refl; counted = refl; room = le-refl 0; closes = λ _. omega (arith, ltb-false at end u) }))
+  fill-sound small kind end at h l e = by-choose (Reads s (card.fill kind) (λ _. 0) 0 0 close end at) (ltb at end)
+      (λ _ u. let i = ltb-true at end u in fill-part small kind end at i l (stop-byte end at i e) (filled-is (getD s at 0) (end - at) end at (omega arith)))
+      (λ _ u. takes {n = at} (record { it = none; meets = tt; low = le-refl at; high = h; bytes = refl; book = refl; counted = refl; marks = tt; room = le-refl 0; closes = λ _. omega (arith, ltb-false at end u) }))
 
-  fill-stops : (end at b n : ℕ) → at ≤ end → end ≤ length s → (b ≡ 0) ⊎ (b ≡ 0xff) → slice at end s ≡ replicate n b → toFill s end at ≡ false
-  fill-stops end at b zero h l m e = let z : at ≡ end = is-end s at end h l e in rw (le-ltb at end (omega arith)) refl
-  fill-stops end at b (suc n) h l m e =
+  -- where elements end and fill begins, or the file does
+  fill-stops : (kind end at : ℕ) (x : card.fill kind .Of) → at ≤ end → end ≤ length s → card.fill kind .Meets x → slice at end s ≡ card.fill kind .bytes x → toFill s end at ≡ false
+  fill-stops kind end at none h l m e = let z : at ≡ end = is-end s at end h l e in rw (le-ltb at end (omega arith)) refl
+  fill-stops kind end at (some (b, zero)) h l m e = absurd (omega (arith, m .1))
+  fill-stops kind end at (some (b, suc n)) h l m e =
       let f : Begins s at end b (replicate n b) = begins s at end l e in
-      rw (lt-ltb at end (f .before), f .first) (go b m)
+      rw (lt-ltb at end (f .before), f .first) (go b (m .0))
     where
       go : (b : ℕ) → (b ≡ 0) ⊎ (b ≡ 0xff) → not (eqb b 0 || eqb b 0xff) ≡ false
       go b (inl z) = rw z refl
@@ -95,22 +86,15 @@ module _ (s : List ℕ) where
   length-replicate zero b = refl
   length-replicate (suc n) b = omega (arith, length-replicate n b)
 
-  fill-complete : (kind end at b n : ℕ) → at ≤ end → end ≤ length s → slice at end s ≡ replicate n b → Goes s end at (card.fillBook kind b n) 0 [] (files.fill s kind end at)
+  fill-complete : (kind end at : ℕ) (x : card.fill kind .Of) → at ≤ end → end ≤ length s → card.fill kind .Meets x → slice at end s ≡ card.fill kind .bytes x → Goes s end at (card.fill kind .book x) 0 [] (files.fill s kind end at)
   unfolding files.fill
-  fill-complete kind end at b zero h l e = let z : at ≡ end = is-end s at end h l e in record { ms = []; n = at; is = rw (le-ltb at end (omega arith)) refl; counted = refl; low = le-refl at; high = h; left = e }
-  fill-complete kind end at b (suc n) h l e =
+  fill-complete kind end at none h l m e = let z : at ≡ end = is-end s at end h l e in record { ms = []; n = at; is = rw (le-ltb at end (omega arith)) refl; counted = refl; low = le-refl at; high = h; left = e }
+  fill-complete kind end at (some (b, zero)) h l m e = absurd (omega (arith, m .1))
+  fill-complete kind end at (some (b, suc n)) h l m e =
       let f : Begins s at end b (replicate n b) = begins s at end l e in
       let z : end - at ≡ suc n = sym (length-slice at end s l) ∙ ap length e ∙ length-replicate (suc n) b in
       let w : at + suc n ≡ end = omega (arith, f .before) in
-      record {
-        ms = [];
-        n = end;
-        is = rw (lt-ltb at end (f .before), f .first, z, filled-complete b (suc n) end at (omega arith) (rw w e), w) refl;
-        counted = refl;
-        low = h;
-        high = le-refl end;
-        left = slice-empty end s;
-      }
+      whole-goes h (rw (lt-ltb at end (f .before), f .first, z, filled-complete b (suc n) end at (omega arith) (rw w e), w) refl)
 
 -- elements, and then fill
 module _ {s : List ℕ} (small : length s ≤ 32768) (P : Part) (c : P .Of → ℕ) (N : ℕ) (f : ℕ → Reader) {L : Look} (item : (j : ℕ) → j ≤ N → Law s (f j) P c j N L) (solid : T (not (L .empty))) (free : L .stop ≡ tags [])
@@ -123,38 +107,29 @@ module _ {s : List ℕ} (small : length s ≤ 32768) (P : Part) (c : P .Of → �
       rw (lt-ltb at end (omega (arith, v .stands .after, v .stands .order, v .stands .inside)), ← b, ne-eqb (firstOf x) 0 (r .0), ne-eqb (firstOf x) 0xff (r .1)) refl
 
   filed-reads : (kind : ℕ) {k end at : ℕ} {r : Res} → end ≤ length s → ManyReads s P c k N (toFill s) end at r → Reads s (many P and card.fill kind) (λ x. total c (x .0)) k N close end at (andThen r (λ n. files.fill s kind end n))
-  filed-reads kind l stopped = refuses
-  filed-reads kind {end = end} l (went {n = n} x g) = seq-also true x (fill-sound s kind end n (x .high) l g)
+  filed-reads kind l (stopped p o) = refuses p o
+  filed-reads kind {end = end} l (went {n = n} x g) = seq-also true x (fill-sound s small kind end n (x .high) l g)
 
-  filed-complete : (kind k : ℕ) (xs : List (P .Of)) (b n : ℕ) → AllMeet (P .Meets) xs → (b ≡ 0) ⊎ (b ≡ 0xff) → (end at : ℕ) → at ≤ end → end ≤ length s → k + total c xs ≤ N → slice at end s ≡ flat (P .bytes) xs ++ replicate n b →
-      Goes s end at (flat (P .book) xs ++ card.fillBook kind b n) (total c xs) [] (andThen (repeat (toFill s) f (end - at) k end at) (λ n. files.fill s kind end n))
-  filed-complete kind k xs b n y m end at h l r e =
-      let a = many-complete P c N (toFill s) f item solid free filed-goes xs y (end - at) k end at r h l (le-refl (end - at)) (replicate n b) e (λ i u q. fill-stops s end i b n u l m q) in
-      let d = fill-complete s kind end (a .n) b n (a .high) l (a .left) in
-      record {
-        ms = a .ms ++ d .ms;
-        n = d .n;
-        is = rw (a .is, d .is) refl;
-        counted = length-append (a .ms) (d .ms) ∙ omega (arith, a .counted, d .counted);
-        low = omega (arith, a .low, d .low);
-        high = d .high;
-        left = d .left;
-      }
+  filed-complete : (kind k : ℕ) (xs : List (P .Of)) (v : card.fill kind .Of) → AllMeet (P .Meets) xs → card.fill kind .Meets v → (end at : ℕ) → at ≤ end → end ≤ length s → k + total c xs ≤ N → slice at end s ≡ flat (P .bytes) xs ++ card.fill kind .bytes v →
+      Goes s end at (flat (P .book) xs ++ card.fill kind .book v) (total c xs) [] (andThen (repeat (toFill s) f (end - at) k end at) (λ n. files.fill s kind end n))
+  filed-complete kind k xs v y m end at h l r e =
+      let a = many-complete P c N (toFill s) f item solid free filed-goes xs y (end - at) k end at r h l (le-refl (end - at)) (card.fill kind .bytes v) e (λ i u q. fill-stops s kind end i v u l m q) in
+      then-goes (λ n. files.fill s kind end n) a (fill-complete s kind end (a .n) v (a .high) l m (a .left))
 
   pub filed-law : (kind k : ℕ) → k ≤ N → BodyLaw s (inside ((λ end at. repeat (toFill s) f (end - at) k end at) then files.fill s kind)) (many P and card.fill kind) (λ x. total c (x .0)) k N
   filed-law kind k i = record {
-    sound = λ at a e h l. filed-reads kind l (many-sound P c N (toFill s) f item (e - a) k e a i h l);
-    complete = λ at a e h l x y r q. filed-complete kind k (x .0) (x .1 .0) (x .1 .1) (y .0) (y .1) e a h l r q;
+    sound = λ at a e _ h l. filed-reads kind l (many-sound P c N (toFill s) f item (e - a) k e a i h l);
+    complete = λ at a e _ h l x y r q. filed-complete kind k (x .0) (x .1) (y .0) (y .1) e a h l r q;
   }
 
 -- just one element, and then fill
 module _ (s : List ℕ) (bytes : Bytes s) (small : length s ≤ 32768) {P : Part} {p : Reader} {L : Look} (law : Plain s p P L) (solid : T (not (L .empty))) (free : L .stop ≡ tags []) (real : (t : ℕ) → L .first t ≡ true → (t ≡ 0 → ⊥) × (t ≡ 0xff → ⊥)) where
   alone-first : (end at : ℕ) → at ≤ end → end ≤ length s → Reads s P (λ _. 0) 0 0 (L .stop) end at (beforeFill s p end at)
-  alone-first end at h l = by-choose (Reads s P (λ _. 0) 0 0 (L .stop) end at) (toFill s end at) (λ _ _. law .sound end at h l) (λ _ _. refuses)
+  alone-first end at h l = by-choose (Reads s P (λ _. 0) 0 0 (L .stop) end at) (toFill s end at) (λ _ _. law .sound end at h l) (λ _ _. refuses end l)
 
   alone-fill : (kind end at : ℕ) → at ≤ end → end ≤ length s → Reads s (card.fill kind) (λ _. 0) 0 0 close end at (onlyFill s kind end at)
   alone-fill kind end at h l = by-choose (Reads s (card.fill kind) (λ _. 0) 0 0 close end at) (toFill s end at)
-      (λ _ _. by-head s bytes small (Reads s (card.fill kind) (λ _. 0) 0 0 close end at) (surplus at) end at l (λ _ _. refuses) (λ _ _ _ _. refuses)) (λ _ e. fill-sound s kind end at h l e)
+      (λ _ _. by-head s bytes small (Reads s (card.fill kind) (λ _. 0) 0 0 close end at) (surplus at) end at h l (λ _ p o. refuses p o) (λ _ _ _ _. refuses at (omega arith))) (λ _ e. fill-sound s small kind end at h l e)
 
   alone-goes : (end at : ℕ) {b : List ℕ} (w : List ℕ) → at ≤ end → end ≤ length s → {d : Bool} → T (not d) → Starts (L .first) d b → slice at end s ≡ b ++ w → toFill s end at ≡ true
   alone-goes end at w h l {d} z (without u e) q = absurd (T-not d z u)
@@ -165,20 +140,11 @@ module _ (s : List ℕ) (bytes : Bytes s) (small : length s ≤ 32768) {P : Part
     sound = λ end at h l. seq-reads true (alone-first end at h l) (λ m i j. alone-fill kind end m j l);
     starts = λ x y. begins-more (card.fill kind .bytes (x .1)) solid (law .starts (x .0) (y .0));
     complete = λ end at h l x y r w v e.
-        let n = x .1 .1 in
-        let b = x .1 .0 in
-        let q : slice at end s ≡ P .bytes (x .0) ++ replicate n b = e ∙ rw v (append-nil (P .bytes (x .0) ++ replicate n b)) in
-        let a = law .complete end at h l (x .0) (y .0) (le-refl 0) (replicate n b) (rw free tt) q in
-        let d = fill-complete s kind end (a .n) b n (a .high) l (a .left) in
-        rw v (record {
-          ms = a .ms ++ d .ms;
-          n = d .n;
-          is = rw (alone-goes end at (replicate n b) h l solid (law .starts (x .0) (y .0)) q, a .is, fill-stops s end (a .n) b n (a .high) l (y .1) (a .left), d .is) refl;
-          counted = length-append (a .ms) (d .ms) ∙ omega (arith, a .counted, d .counted);
-          low = omega (arith, a .low, d .low);
-          high = d .high;
-          left = d .left;
-        });
+        let b = card.fill kind .bytes (x .1) in
+        let q : slice at end s ≡ P .bytes (x .0) ++ b = e ∙ rw v (append-nil (P .bytes (x .0) ++ b)) in
+        let a = law .complete end at h l (x .0) (y .0) (le-refl 0) b (rw free tt) q in
+        let d = fill-complete s kind end (a .n) (x .1) (a .high) l (y .1) (a .left) in
+        rw (v, alone-goes end at b h l solid (law .starts (x .0) (y .0)) q) (then-goes (λ n. onlyFill s kind end n) a (rw (fill-stops s kind end (a .n) (x .1) (a .high) l (y .1) (a .left)) d));
   }
     where
       begins-more : {d : Bool} {b : List ℕ} (w : List ℕ) → T (not d) → Starts (L .first) d b → Starts (L .first) false (b ++ w)

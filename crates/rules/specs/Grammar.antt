@@ -1,5 +1,5 @@
 -- What a part of a card is, said without reading it: its contents as data, the bytes and the records of the book that they stand as, and what they must meet.
-use Prim.Native.Nat.{ℕ, zero, suc, _+_, _*_, _/_, _%_, _^_, _≤_, _<_}
+use Prim.Native.Nat.{ℕ, suc, _+_, _*_, _/_, _%_, _^_, _≤_, _<_}
 use mathlib.Core.Path.{_≡_}
 use mathlib.Core.List.{List, [], _∷_, _++_}
 use mathlib.Core.Bool.{Bool, true, false}
@@ -20,6 +20,7 @@ use Rattle.elements.specs.Put.{le16, le32}
 use Rattle.rules.specs.declared.table.Need.{Need}
 use Rattle.rules.specs.declared.table.Need.the-variants.{Required, Optional, Default}
 use Rattle.rules.specs.declared.table.Row.{Row}
+use Rattle.rules.specs.declared.table.Sort.{Sort}
 use Rattle.rules.specs.Reading.{Rec, rec}
 
 -- an element: class and constructed bit (the first byte's top three bits), the tag's number, the contents
@@ -151,6 +152,19 @@ choice which P = record {
   Meets = λ x. (which (x .0) ≡ true) × P (x .0) .Meets (x .1);
 }
 
+-- an element with one of these tags, behind a record that tells x and its tag
+abbrev pub numbered : ℕ → (ℕ → Bool) → ℕ → (ℕ → Part) → Item
+numbered kind which x P = choice which (λ t. behind (P t) (λ _. rec kind (x ∷ t ∷ [])))
+
+-- an element of one of several sorts
+abbrev pub bySort : (Sort → Item) → Item
+bySort I = record {
+  Of = (x : Sort) × I x .Of;
+  shape = λ i. I (i .0) .shape (i .1);
+  book = λ i. I (i .0) .book (i .1);
+  Meets = λ i. I (i .0) .Meets (i .1);
+}
+
 -- none
 abbrev pub never : Item
 never = record { Of = ⊥; shape = λ x. absurd x; book = λ x. absurd x; Meets = λ x. ⊥ }
@@ -236,12 +250,13 @@ fields [] = empty
 fields (r ∷ rs) = slot (r .need) (tagged (r .tag) (field r)) and fields rs
 
 -- "a first byte 00 or FF where an element would start begins the fill, and all bytes to the end must equal it"; "fill byte, 2-byte count"
-abbrev pub fillBook : ℕ → ℕ → ℕ → List Rec
-fillBook kind b zero = []
-fillBook kind b (suc n) = rec kind (b ∷ le16 (suc n)) ∷ []
-
 abbrev pub fill : ℕ → Part
-fill kind = record { Of = ℕ × ℕ; bytes = λ x. replicate (x .1) (x .0); book = λ x. fillBook kind (x .0) (x .1); Meets = λ x. (x .0 ≡ 0) ⊎ (x .0 ≡ 0xff) }
+fill kind = record {
+  Of = Option (ℕ × ℕ);
+  bytes = λ x. elim x [ none ↦ [] | some (b, n) ↦ replicate n b ];
+  book = λ x. elim x [ none ↦ [] | some (b, n) ↦ rec kind (b ∷ le16 n) ∷ [] ];
+  Meets = λ x. elim x [ none ↦ Unit {0} | some (b, n) ↦ ((b ≡ 0) ⊎ (b ≡ 0xff)) × (1 ≤ n) × (n < 65536) ];
+}
 
 infixl 20 _and_
 infixr 18 _or_

@@ -1,5 +1,5 @@
 -- A reader reads a part: what it takes is the part's encoding, and every encoding is taken. One law for each way to put parts together.
-use Prim.Native.Nat.{ℕ, suc, _+_, _-_, _*_, _/_, _%_, _≤_, _<_}
+use Prim.Native.Nat.{ℕ, suc, _+_, _-_, _≤_, _<_}
 use mathlib.Core.List.{List, [], _∷_, _++_, append-assoc, append-nil}
 use mathlib.Core.Bool.{Bool, true, false, not, _||_, _&&_}
 use mathlib.Core.Option.{none, some}
@@ -9,18 +9,19 @@ use native.Mathlib.Nat.{le-refl}
 use lib.ListN.{length, length-append}
 use lib.Seq.{slice, slice-empty, length-slice}
 use lib.Dec.{ltb, eqb, T}
-use borrow.Author.Tests.{ltb-true, ltb-false, lt-ltb, le-ltb, eqb-true, eqb-false, eq-eqb}
+use borrow.Author.Tests.{ltb-true, ltb-false, lt-ltb, le-ltb, eqb-true, eq-eqb}
 use Rattle.elements.specs.declared.fault.Fault.{Fault}
 use Rattle.elements.specs.declared.fault.Fault.the-variants.{NotDue, Missing}
 use Rattle.elements.specs.declared.answer.Head.{Head}
 use Rattle.elements.specs.declared.answer.Head.the-variants.{At, No}
 use Rattle.elements.specs.declared.answer.Run.{Run}
 use Rattle.elements.specs.declared.answer.Run.the-variants.{Ends, Refused}
-use Rattle.elements.specs.Choice.{choose, pick}
-use Rattle.elements.specs.ChoiceLaws.{by-choose, by-less}
-use Rattle.elements.specs.Length.{shortest, tagBytes}
+use Rattle.elements.specs.Choice.{choose}
+use Rattle.elements.specs.ChoiceLaws.{by-choose}
 use Rattle.elements.specs.Lists.{Bytes, cons, join}
 use Rattle.elements.specs.Header.{header}
+use Rattle.elements.specs.HeaderLaws.{header-refuses}
+use Rattle.elements.specs.SealedLaws.{sealed-refuses}
 use Rattle.elements.specs.Sealed.{among, sealedRun}
 use Rattle.rules.specs.declared.table.Need.{Need}
 use Rattle.rules.specs.declared.table.Need.the-variants.{Required, Optional, Default}
@@ -29,6 +30,7 @@ use Rattle.rules.specs.Parts as parts
 use Rattle.rules.specs.Parts.{component, due, absent, surplus, whatever, inside, keep}
 use Rattle.rules.specs.Grammar.{Element, low, elementBytes, firstOf, IsElement, SealedRun, over, plain, deep, Part, Item, empty, _and_, one, optional, slot, tagged, choice, raw, unlessEmpty, rest}
 use Rattle.rules.specs.ElementLaws.{is-end, Stands, Headed, head-sound, Placed, head-complete, run-sound, run-complete}
+pub use Rattle.rules.specs.ElementLaws.{lowTag, LowTag, low-tag, low-is, low-first, low-bytes}
 
 -- what may not follow a part: elements with one of these tags, or anything
 pub data Stop : Type 0 where
@@ -67,7 +69,16 @@ follows-end close = refl
 follows-end (tags []) = tt
 follows-end (tags (t ∷ l)) = nothing refl
 
--- what was taken: c counts what is counted in it, of N in all, k before it
+-- places that lie in the dump
+abbrev pub Marks : ℕ → List ℕ → Type 0
+Marks n [] = Unit {0}
+Marks n (m ∷ ms) = (m ≤ n) × Marks n ms
+
+pub marks-append : (n : ℕ) (l m : List ℕ) → Marks n l → Marks n m → Marks n (l ++ m)
+marks-append n [] m h g = g
+marks-append n (x ∷ l) m h g = (h .0, marks-append n l m (h .1) g)
+
+-- what was taken: c counts what is counted in it, of N in all, k before it; ms are the places of these
 pub record Facts (s : List ℕ) (P : Part) (c : P .Of → ℕ) (k N : ℕ) (t : Stop) (end at : ℕ) (rs : List Rec) (ms : List ℕ) (n : ℕ) : Type 0 where
   pub it : P .Of
   pub meets : P .Meets it
@@ -76,11 +87,12 @@ pub record Facts (s : List ℕ) (P : Part) (c : P .Of → ℕ) (k N : ℕ) (t : 
   pub bytes : slice at end s ≡ P .bytes it ++ slice n end s
   pub book : rs ≡ P .book it
   pub counted : length ms ≡ c it
+  pub marks : Marks (length s) ms
   pub room : k + c it ≤ N
   pub closes : T (isClose t) → n ≡ end
 
 pub data Reads (s : List ℕ) (P : Part) (c : P .Of → ℕ) (k N : ℕ) (t : Stop) (end at : ℕ) : Res → Type 0 where
-  refuses : {f : Fault} {p : ℕ} → Reads s P c k N t end at (fails f p)
+  refuses : {f : Fault} (p : ℕ) → p ≤ length s → Reads s P c k N t end at (fails f p)
   takes : {rs : List Rec} {ms : List ℕ} {n : ℕ} → Facts s P c k N t end at rs ms n → Reads s P c k N t end at (took rs ms n)
 
 pub record Goes (s : List ℕ) (end at : ℕ) (rs : List Rec) (m : ℕ) (w : List ℕ) (r : Res) : Type 0 where
@@ -92,6 +104,18 @@ pub record Goes (s : List ℕ) (end at : ℕ) (rs : List Rec) (m : ℕ) (w : Lis
   pub high : n ≤ end
   pub left : slice n end s ≡ w
 
+-- one after the other
+pub then-goes : {s : List ℕ} {end at : ℕ} {bs cs : List Rec} {m : ℕ} {v w : List ℕ} {r : Res} (k : ℕ → Res) (a : Goes s end at bs m v r) → Goes s end (a .n) cs 0 w (k (a .n)) → Goes s end at (bs ++ cs) m w (andThen r k)
+then-goes k a b = record {
+  ms = a .ms ++ b .ms;
+  n = b .n;
+  is = rw (a .is, b .is) refl;
+  counted = length-append (a .ms) (b .ms) ∙ omega (arith, a .counted, b .counted);
+  low = omega (arith, a .low, b .low);
+  high = b .high;
+  left = b .left;
+}
+
 pub record Law (s : List ℕ) (p : Reader) (P : Part) (c : P .Of → ℕ) (k N : ℕ) (L : Look) : Type 0 where
   pub sound : (end at : ℕ) → at ≤ end → end ≤ length s → Reads s P c k N (L .stop) end at (p end at)
   pub starts : (x : P .Of) → P .Meets x → Starts (L .first) (L .empty) (P .bytes x)
@@ -100,8 +124,8 @@ pub record Law (s : List ℕ) (p : Reader) (P : Part) (c : P .Of → ℕ) (k N :
 
 -- the same of what is inside an element
 pub record BodyLaw (s : List ℕ) (b : Body) (P : Part) (c : P .Of → ℕ) (k N : ℕ) : Type 0 where
-  pub sound : (at a e : ℕ) → a ≤ e → e ≤ length s → Reads s P c k N close e a (b at a e)
-  pub complete : (at a e : ℕ) → a ≤ e → e ≤ length s → (x : P .Of) → P .Meets x → k + c x ≤ N → slice a e s ≡ P .bytes x → Goes s e a (P .book x) (c x) [] (b at a e)
+  pub sound : (at a e : ℕ) → at ≤ a → a ≤ e → e ≤ length s → Reads s P c k N close e a (b at a e)
+  pub complete : (at a e : ℕ) → at ≤ a → a ≤ e → e ≤ length s → (x : P .Of) → P .Meets x → k + c x ≤ N → slice a e s ≡ P .bytes x → Goes s e a (P .book x) (c x) [] (b at a e)
 
 -- where nothing is counted
 abbrev pub Plain : List ℕ → Reader → (P : Part) → Look → Type 0
@@ -193,7 +217,7 @@ seq-closes close (tags l) true h k f g z = let e = f tt in omega arith
 module _ {s : List ℕ} {P Q : Part} {c : P .Of → ℕ} {k N : ℕ} where
   pub seq-also : {t u : Stop} {end at m : ℕ} (d : Bool) {bs : List Rec} {ms : List ℕ} {r : Res} → Facts s P c k N t end at bs ms m → Reads s Q (λ _. 0) 0 0 u end m r →
       Reads s (P and Q) (λ x. c (x .0)) k N (seqStop t d u) end at (also bs ms r)
-  seq-also d f refuses = refuses
+  seq-also d f (refuses p o) = refuses p o
   seq-also {t} {u} {end} {at} {m} d {bs} {ms} f (takes {rs = cs} {ms = ns} {n = n} g) = takes {rs = bs ++ cs} {ms = ms ++ ns} {n = n} (record {
     it = (f .it, g .it);
     meets = (f .meets, g .meets);
@@ -202,13 +226,14 @@ module _ {s : List ℕ} {P Q : Part} {c : P .Of → ℕ} {k N : ℕ} where
     bytes = f .bytes ∙ rw (g .bytes) (sym (append-assoc (P .bytes (f .it)) (Q .bytes (g .it)) (slice n end s)));
     book = rw (f .book, g .book) refl;
     counted = length-append ms ns ∙ omega (arith, f .counted, g .counted);
+    marks = marks-append (length s) ms ns (f .marks) (g .marks);
     room = f .room;
     closes = seq-closes t u d (g .low) (g .high) (f .closes) (g .closes);
   })
 
   pub seq-reads : {t u : Stop} {end at : ℕ} (d : Bool) {r : Res} {q : ℕ → Res} → Reads s P c k N t end at r → ((m : ℕ) → at ≤ m → m ≤ end → Reads s Q (λ _. 0) 0 0 u end m (q m)) →
       Reads s (P and Q) (λ x. c (x .0)) k N (seqStop t d u) end at (andThen r q)
-  seq-reads d refuses g = refuses
+  seq-reads d (refuses p o) g = refuses p o
   seq-reads d (takes {n = n} f) g = seq-also d f (g n (f .low) (f .high))
 
   pub seq : {p q : Reader} {L M : Look} → Law s p P c k N L → Plain s q Q M → T (clear (M .first) (L .stop)) → Law s (p then q) (P and Q) (λ x. c (x .0)) k N (seqLook L M)
@@ -218,22 +243,13 @@ module _ {s : List ℕ} {P Q : Part} {c : P .Of → ℕ} {k N : ℕ} where
     complete = λ end at h l x y r w v e.
         let a = f .complete end at h l (x .0) (y .0) r (Q .bytes (x .1) ++ w)
         (follow-on (M .first) (M .empty) (L .stop) (M .stop) w z (g .starts (x .1) (y .1)) v) (e ∙ append-assoc (P .bytes (x .0)) (Q .bytes (x .1)) w) in
-        let b = g .complete end (a .n) (a .high) l (x .1) (y .1) (le-refl 0) w (follow-right (M .empty) (L .stop) (M .stop) w v) (a .left) in
-        record {
-          ms = a .ms ++ b .ms;
-          n = b .n;
-          is = rw (a .is, b .is) refl;
-          counted = length-append (a .ms) (b .ms) ∙ omega (arith, a .counted, b .counted);
-          low = omega (arith, a .low, b .low);
-          high = b .high;
-          left = b .left;
-        };
+        then-goes (λ n. q end n) a (g .complete end (a .n) (a .high) l (x .1) (y .1) (le-refl 0) w (follow-right (M .empty) (L .stop) (M .stop) w v) (a .left));
   }
 
 -- nothing
 pub none-law : (s : List ℕ) → Plain s (λ end at. took [] [] at) empty (look (λ _. false) true (tags []))
 none-law s = record {
-  sound = λ end at h l. takes (record { it = tt; meets = tt; low = le-refl at; high = h; bytes = refl; book = refl; counted = refl; room = le-refl 0; closes = λ u. absurd u });
+  sound = λ end at h l. takes (record { it = tt; meets = tt; low = le-refl at; high = h; bytes = refl; book = refl; counted = refl; marks = tt; room = le-refl 0; closes = λ u. absurd u });
   starts = λ x y. without tt refl;
   complete = λ end at h l x y r w v e. record { ms = []; n = at; is = refl; counted = refl; low = le-refl at; high = h; left = e };
 }
@@ -241,42 +257,9 @@ none-law s = record {
 -- up to the end of a container
 pub inside-law : {s : List ℕ} {p : Reader} {P : Part} {c : P .Of → ℕ} {k N : ℕ} {L : Look} → Law s p P c k N L → L .stop ≡ close → BodyLaw s (inside p) P c k N
 inside-law {s} {p} {P} {c} {k} {N} {L} f z = record {
-  sound = λ at a e h l. subst (λ (t : Stop). Reads s P c k N t e a (p e a)) z (f .sound e a h l);
-  complete = λ at a e h l x y r q. f .complete e a h l x y r [] (follows-end (L .stop)) (q ∙ sym (append-nil (P .bytes x)));
+  sound = λ at a e _ h l. subst (λ (t : Stop). Reads s P c k N t e a (p e a)) z (f .sound e a h l);
+  complete = λ at a e _ h l x y r q. f .complete e a h l x y r [] (follows-end (L .stop)) (q ∙ sym (append-nil (P .bytes x)));
 }
-
--- a tag of one byte
-abbrev pub lowTag : ℕ → Bool
-lowTag t = ltb t 256 && (not (eqb t 0) && not (eqb (t % 32) 31))
-
-pub record LowTag (t : ℕ) : Type 0 where
-  pub byte : t < 256
-  pub some-tag : t ≡ 0 → ⊥
-  pub short : t % 32 < 31
-
-pub low-tag : (t : ℕ) → T (lowTag t) → LowTag t
-low-tag t z = go (ltb t 256) refl (eqb t 0) refl (eqb (t % 32) 31) refl z
-  where
-    go : (a : Bool) → ltb t 256 ≡ a → (b : Bool) → eqb t 0 ≡ b → (c : Bool) → eqb (t % 32) 31 ≡ c → T (a && (not b && not c)) → LowTag t
-    go true p false q false r z = let n = eqb-false (t % 32) 31 r in record { byte = ltb-true t 256 p; some-tag = eqb-false t 0 q; short = by-less (t % 32) 31 (λ x. x) (λ x. absurd (n (omega arith))) }
-    go true p true q c r z = absurd z
-    go true p false q true r z = absurd z
-    go false p b q c r z = absurd z
-
-pub low-is : (t : ℕ) (c : List ℕ) → LowTag t → IsElement (low t c)
-low-is t c z = record { lead-fits = omega (arith, z .byte); number-fits = omega arith; some-tag = λ p q. z .some-tag (omega arith) }
-
-pub low-first : (t : ℕ) (c : List ℕ) → LowTag t → firstOf (low t c) ≡ t
-low-first t c z = rw (lt-ltb (t % 32) 31 (z .short)) (omega arith)
-
--- the element with that first byte
-pub low-bytes : (x : Element) (t : ℕ) → LowTag t → firstOf x ≡ t → elementBytes (low t (x .contents)) ≡ elementBytes x
-unfolding elementBytes
-low-bytes x t z e = go (ltb (x .number) 31) refl e
-  where
-    go : (b : Bool) → ltb (x .number) 31 ≡ b → pick b (x .lead * 32 + x .number) (x .lead * 32 + 31) ≡ t → tagBytes (t / 32) (t % 32) ++ shortest (length (x .contents)) ++ x .contents ≡ tagBytes (x .lead) (x .number) ++ shortest (length (x .contents)) ++ x .contents
-    go true q e = let h = ltb-true (x .number) 31 q in let a : t / 32 ≡ x .lead = omega arith in let b : t % 32 ≡ x .number = omega arith in rw (a, b) refl
-    go false q e = absurd (let h : t % 32 < 31 = z .short in omega arith)
 
 -- what ends with its container
 pub whole-reads : {s : List ℕ} (P : Part) {a e : ℕ} (rs : List Rec) (x : P .Of) → P .Meets x → a ≤ e → slice a e s ≡ P .bytes x → rs ≡ P .book x → Reads s P (λ _. 0) 0 0 close e a (took rs [] e)
@@ -288,6 +271,7 @@ whole-reads {s} P {a} {e} rs x y h q r = takes {n = e} (record {
   bytes = rw (slice-empty e s) (q ∙ sym (append-nil (P .bytes x)));
   book = r;
   counted = refl;
+  marks = tt;
   room = le-refl 0;
   closes = λ _. refl;
 })
@@ -299,21 +283,21 @@ whole-goes {s} {a} {e} h q = record { ms = []; n = e; is = q; counted = refl; lo
 pub raw-law : {s : List ℕ} (r : List ℕ → Rec) (M : List ℕ → Type 0) (test : ℕ → Bool) (f : Fault) → ((c : List ℕ) → test (length c) ≡ true → M c) → ((c : List ℕ) → M c → test (length c) ≡ true) →
     PlainBody s (λ at a e. choose (test (e - a)) (λ _. took (r (slice a e s) ∷ []) [] e) (λ _. fails f at)) (raw r M)
 raw-law {s} r M test f g k = record {
-  sound = λ at a e h l.
+  sound = λ at a e i h l.
       by-choose (Reads s (raw r M) (λ _. 0) 0 0 close e a) (test (e - a))
-      (λ _ u. whole-reads (raw r M) (r (slice a e s) ∷ []) (slice a e s) (g (slice a e s) (rw (length-slice a e s l) u)) h refl refl) (λ _ _. refuses);
-  complete = λ at a e h l x y _ q.
+      (λ _ u. whole-reads (raw r M) (r (slice a e s) ∷ []) (slice a e s) (g (slice a e s) (rw (length-slice a e s l) u)) h refl refl) (λ _ _. refuses at (omega arith));
+  complete = λ at a e _ h l x y _ q.
       let z : e - a ≡ length x = sym (length-slice a e s l) ∙ ap length q in
       whole-goes h (rw (z, k x y, q) refl);
 }
 
 module _ (s : List ℕ) (bytes : Bytes s) (small : length s ≤ 32768) where
   -- by the header at a place
-  pub by-head : (X : Res → Type 0) (g : Head → Res) (end at : ℕ) → end ≤ length s → ((f : Fault) (p : ℕ) → X (g (No f p))) → ((t a e : ℕ) → Headed s at end t a e → X (g (At t a e))) → X (g (header s at end))
-  by-head X g end at l x y = go (header s at end) refl
+  pub by-head : (X : Res → Type 0) (g : Head → Res) (end at : ℕ) → at ≤ end → end ≤ length s → ((f : Fault) (p : ℕ) → p ≤ length s → X (g (No f p))) → ((t a e : ℕ) → Headed s at end t a e → X (g (At t a e))) → X (g (header s at end))
+  by-head X g end at h l x y = go (header s at end) refl
     where
       go : (w : Head) → header s at end ≡ w → X (g w)
-      go (No f p) q = x f p
+      go (No f p) q = x f p (omega (arith, header-refuses s at end h q .1))
       go (At t a e) q = y t a e (head-sound s bytes at end l q)
 
   -- the rest of a sequence
@@ -321,10 +305,10 @@ module _ (s : List ℕ) (bytes : Bytes s) (small : length s ≤ 32768) where
   unfolding parts.rest
   rest-sound kind out end at h l =
       by-choose (Reads s (rest kind out) (λ _. 0) 0 0 close end at) (ltb at end) (λ _ u. go (ltb-true at end u) (sealedRun 16 s out at end) refl)
-      (λ _ u. takes {n = at} (record { it = []; meets = over refl; low = le-refl at; high = h; bytes = refl; book = refl; counted = refl; room = le-refl 0; closes = λ _. omega (arith, ltb-false at end u) }))
+      (λ _ u. takes {n = at} (record { it = []; meets = over refl; low = le-refl at; high = h; bytes = refl; book = refl; counted = refl; marks = tt; room = le-refl 0; closes = λ _. omega (arith, ltb-false at end u) }))
     where
       go : at < end → (r : Run) → sealedRun 16 s out at end ≡ r → Reads s (rest kind out) (λ _. 0) 0 0 close end at (keep (rec kind (slice at end s) ∷ []) end r)
-      go u (Refused f p) q = refuses
+      go u (Refused f p) q = refuses p (omega (arith, sealed-refuses 16 s out at end h q .1))
       go u (Ends i) q = whole-reads (rest kind out) (rec kind (slice at end s) ∷ []) (slice at end s) (run-sound s bytes 16 out at end h l q) h refl (rw (cons s at end u l) refl)
 
   rest-starts : (out c : List ℕ) {l : ℕ} → SealedRun l out c → Starts (λ t. not (among t out)) true c
@@ -349,11 +333,11 @@ module _ (s : List ℕ) (bytes : Bytes s) (small : length s ≤ 32768) where
   -- and nothing more is due
   ended-reads : {P : Part} {c : P .Of → ℕ} {k N : ℕ} {t : Stop} {end at : ℕ} {r : Res} → end ≤ length s → Reads s P c k N t end at r → Reads s P c k N close end at (andThen r (λ n. parts.ended s end n))
   unfolding parts.ended
-  ended-reads l refuses = refuses
+  ended-reads l (refuses p o) = refuses p o
   ended-reads {P} {c} {k} {N} {t} {end} {at} l (takes {rs = rs} {ms = ms} {n = n} f) =
       by-choose (λ x. Reads s P c k N close end at (also rs ms x)) (ltb n end)
-      (λ _ _. by-head (λ x. Reads s P c k N close end at (also rs ms x)) (surplus n) end n l (λ _ _. refuses) (λ _ _ _ _. refuses))
-      (λ _ u. takes {rs = rs ++ []} {ms = ms ++ []} {n = n} (record { it = f .it; meets = f .meets; low = f .low; high = f .high; bytes = f .bytes; book = append-nil rs ∙ f .book; counted = rw append-nil (f .counted); room = f .room; closes = λ _. omega (arith, f .high, ltb-false n end u) }))
+      (λ _ _. by-head (λ x. Reads s P c k N close end at (also rs ms x)) (surplus n) end n (f .high) l (λ _ p o. refuses p o) (λ _ _ _ _. refuses n (omega (arith, f .high))))
+      (λ _ u. takes {rs = rs ++ []} {ms = ms ++ []} {n = n} (record { it = f .it; meets = f .meets; low = f .low; high = f .high; bytes = f .bytes; book = append-nil rs ∙ f .book; counted = rw append-nil (f .counted); marks = rw append-nil (f .marks); room = f .room; closes = λ _. omega (arith, f .high, ltb-false n end u) }))
 
   ended-goes : {end at : ℕ} {rs : List Rec} {m : ℕ} {r : Res} → end ≤ length s → Goes s end at rs m [] r → Goes s end at rs m [] (andThen r (λ n. parts.ended s end n))
   unfolding parts.ended
@@ -368,16 +352,20 @@ module _ (s : List ℕ) (bytes : Bytes s) (small : length s ≤ 32768) where
     complete = λ end at h l x y r w v e. rw v (ended-goes l (f .complete end at h l x y r [] (follows-end (L .stop)) (e ∙ rw v refl)));
   }
 
--- an element by its body, for the tags of `dom`
-pub record ItemLaw (s : List ℕ) (b : ℕ → Body) (I : Item) (c : I .Of → ℕ) (k N : ℕ) (dom : ℕ → Bool) : Type 0 where
-  pub sound : (x : Element) → IsElement x → dom (firstOf x) ≡ true → (end at a e : ℕ) → Stands s at end x a e → end ≤ length s → Reads s (one I) c k N close e at (b (firstOf x) at a e)
+-- every element
+abbrev pub Any : Element → Type 0
+Any x = Unit {0}
+
+-- an element by its body, for those of `dom`
+pub record ItemLaw (s : List ℕ) (b : ℕ → Body) (I : Item) (c : I .Of → ℕ) (k N : ℕ) (dom : Element → Type 0) : Type 0 where
+  pub sound : (x : Element) → IsElement x → dom x → (end at a e : ℕ) → Stands s at end x a e → end ≤ length s → Reads s (one I) c k N close e at (b (firstOf x) at a e)
   pub is : (i : I .Of) → I .Meets i → IsElement (I .shape i)
-  pub begins : (i : I .Of) → I .Meets i → dom (firstOf (I .shape i)) ≡ true
+  pub begins : (i : I .Of) → I .Meets i → dom (I .shape i)
   pub complete : (i : I .Of) → I .Meets i → k + c i ≤ N → (end at a e : ℕ) → Stands s at end (I .shape i) a e → end ≤ length s → Goes s e at (I .book i) (c i) [] (b (firstOf (I .shape i)) at a e)
 
 module _ (s : List ℕ) (bytes : Bytes s) (small : length s ≤ 32768) where
   widen : {P : Part} {c : P .Of → ℕ} {k N : ℕ} {end at e : ℕ} (l : List ℕ) {r : Res} → at ≤ e → e ≤ end → Reads s P c k N close e at r → Reads s P c k N (tags l) end at r
-  widen l h i refuses = refuses
+  widen l h i (refuses p o) = refuses p o
   widen {P} {end = end} {at = at} {e = e} l h i (takes {n = n} f) =
       let z : n ≡ e = f .closes tt in
       takes {n = n} (record {
@@ -388,6 +376,7 @@ module _ (s : List ℕ) (bytes : Bytes s) (small : length s ≤ 32768) where
         bytes = sym (join at e end s h i) ∙ rw (f .bytes, z, slice-empty e s, append-nil (P .bytes (f .it))) refl;
         book = f .book;
         counted = f .counted;
+        marks = f .marks;
         room = f .room;
         closes = λ u. absurd u;
       })
@@ -398,16 +387,16 @@ module _ (s : List ℕ) (bytes : Bytes s) (small : length s ≤ 32768) where
       let z : g .n ≡ v .e = is-end s (g .n) (v .e) (g .high) (omega (arith, st .inside)) (g .left) in
       record { ms = g .ms; n = g .n; is = g .is; counted = g .counted; low = g .low; high = omega (arith, g .high, st .inside); left = rw z (v .left) }
 
-  pub element-law : {b : ℕ → Body} {I : Item} {c : I .Of → ℕ} {k N : ℕ} (first : ℕ → Bool) → ItemLaw s b I c k N (λ _. true) → ((i : I .Of) → I .Meets i → first (firstOf (I .shape i)) ≡ true) →
+  pub element-law : {b : ℕ → Body} {I : Item} {c : I .Of → ℕ} {k N : ℕ} (first : ℕ → Bool) → ItemLaw s b I c k N Any → ((i : I .Of) → I .Meets i → first (firstOf (I .shape i)) ≡ true) →
       Law s (parts.element s b) (one I) c k N (look first false (tags []))
   unfolding parts.element
   element-law {b} {I} {c} {k} {N} first f g = record {
     sound = λ end at h l.
         by-choose (Reads s (one I) c k N (tags []) end at) (ltb at end) (λ _ _.
-        by-head s bytes small (Reads s (one I) c k N (tags []) end at) (whatever b at) end at l (λ _ _. refuses) (λ t a e v.
+        by-head s bytes small (Reads s (one I) c k N (tags []) end at) (whatever b at) end at h l (λ _ p o. refuses p o) (λ t a e v.
         let st = v .stands in
-        rw (v .tag) at (widen [] (omega (arith, st .after, st .order)) (st .inside) (f .sound (v .x) (v .element) refl end at a e st l))))
-        (λ _ _. refuses);
+        rw (v .tag) at (widen [] (omega (arith, st .after, st .order)) (st .inside) (f .sound (v .x) (v .element) tt end at a e st l))))
+        (λ _ _. refuses end l);
     starts = λ i y. begun (I .shape i) [] (f .is i y) (g i y) (sym (append-nil (elementBytes (I .shape i))));
     complete = λ end at h l i y r w _ e.
         let v = head-complete s small at end (I .shape i) w h l (f .is i y) e in
@@ -418,7 +407,7 @@ module _ (s : List ℕ) (bytes : Bytes s) (small : length s ≤ 32768) where
   -- an element of a tag t, from what is inside it: f makes the item
   pub shaped-reads : (P : Part) (I : Item) {c : P .Of → ℕ} (d : I .Of → ℕ) {k N : ℕ} (t : ℕ) (f : P .Of → I .Of) → ((y : P .Of) → I .shape (f y) ≡ low t (P .bytes y)) → ((y : P .Of) → P .book y ≡ I .book (f y)) →
       ((y : P .Of) → P .Meets y → I .Meets (f y)) → ((y : P .Of) → c y ≡ d (f y)) → LowTag t → (x : Element) → firstOf x ≡ t → {end at a e : ℕ} {r : Res} → Stands s at end x a e → Reads s P c k N close e a r → Reads s (one I) d k N close e at r
-  shaped-reads P I d t f sh bk mt ct z x q st refuses = refuses
+  shaped-reads P I d t f sh bk mt ct z x q st (refuses p o) = refuses p o
   shaped-reads P I d t f sh bk mt ct z x q {end} {at} {a} {e} st (takes {n = n} g) =
       let n≡e : n ≡ e = g .closes tt in
       let w : slice a e s ≡ P .bytes (g .it) = g .bytes ∙ rw (n≡e, slice-empty e s) (append-nil (P .bytes (g .it))) in
@@ -431,6 +420,7 @@ module _ (s : List ℕ) (bytes : Bytes s) (small : length s ≤ 32768) where
         bytes = st .whole ∙ rw (sh (g .it), y, n≡e, slice-empty e s) (sym (append-nil (elementBytes x)));
         book = g .book ∙ bk (g .it);
         counted = g .counted ∙ ct (g .it);
+        marks = g .marks;
         room = omega (arith, g .room, ct (g .it));
         closes = g .closes;
       })
@@ -439,24 +429,24 @@ module _ (s : List ℕ) (bytes : Bytes s) (small : length s ≤ 32768) where
   inside-goes st g = record { ms = g .ms; n = g .n; is = g .is; counted = g .counted; low = omega (arith, st .after, g .low); high = g .high; left = g .left }
 
   -- an element of one tag
-  pub tagged-law : {b : Body} {P : Part} {c : P .Of → ℕ} {k N : ℕ} (tag : ℕ) → LowTag tag → BodyLaw s b P c k N → ItemLaw s (λ _. b) (tagged tag P) c k N (λ t. eqb t tag)
+  pub tagged-law : {b : Body} {P : Part} {c : P .Of → ℕ} {k N : ℕ} (tag : ℕ) → LowTag tag → BodyLaw s b P c k N → ItemLaw s (λ _. b) (tagged tag P) c k N (λ x. firstOf x ≡ tag)
   tagged-law {b} {P} {c} tag z f = record {
-    sound = λ x i d end at a e st l. shaped-reads P (tagged tag P) c tag (λ y. y) (λ _. refl) (λ _. refl) (λ _ m. m) (λ _. refl) z x (eqb-true (firstOf x) tag d) st (f .sound at a e (st .order) (omega (arith, st .inside)));
+    sound = λ x i d end at a e st l. shaped-reads P (tagged tag P) c tag (λ y. y) (λ _. refl) (λ _. refl) (λ _ m. m) (λ _. refl) z x d st (f .sound at a e (omega (arith, st .after)) (st .order) (omega (arith, st .inside)));
     is = λ i y. low-is tag (P .bytes i) z;
-    begins = λ i y. rw (low-first tag (P .bytes i) z) (eq-eqb tag tag refl);
-    complete = λ i y r end at a e st l. inside-goes st (f .complete at a e (st .order) (omega (arith, st .inside)) i y r (st .within));
+    begins = λ i y. low-first tag (P .bytes i) z;
+    complete = λ i y r end at a e st l. inside-goes st (f .complete at a e (omega (arith, st .after)) (st .order) (omega (arith, st .inside)) i y r (st .within));
   }
 
   -- an element with one of the tags
   pub choice-law : (which : ℕ → Bool) {b : ℕ → Body} (P : ℕ → Part) (c : (t : ℕ) → P t .Of → ℕ) {k N : ℕ} → ((t : ℕ) → which t ≡ true → LowTag t) → ((t : ℕ) → which t ≡ true → BodyLaw s (b t) (P t) (c t) k N) →
-      ItemLaw s b (choice which P) (λ x. c (x .0) (x .1)) k N which
+      ItemLaw s b (choice which P) (λ x. c (x .0) (x .1)) k N (λ x. which (firstOf x) ≡ true)
   choice-law which {b} P c z f = record {
     sound = λ x i m end at a e st l.
         let t = firstOf x in
-        shaped-reads (P t) (choice which P) (λ x. c (x .0) (x .1)) t (λ y. (t, y)) (λ _. refl) (λ _. refl) (λ _ y. (m, y)) (λ _. refl) (z t m) x refl st (f t m .sound at a e (st .order) (omega (arith, st .inside)));
+        shaped-reads (P t) (choice which P) (λ x. c (x .0) (x .1)) t (λ y. (t, y)) (λ _. refl) (λ _. refl) (λ _ y. (m, y)) (λ _. refl) (z t m) x refl st (f t m .sound at a e (omega (arith, st .after)) (st .order) (omega (arith, st .inside)));
     is = λ i y. low-is (i .0) (P (i .0) .bytes (i .1)) (z (i .0) (y .0));
     begins = λ i y. rw (low-first (i .0) (P (i .0) .bytes (i .1)) (z (i .0) (y .0))) (y .0);
-    complete = λ i y r end at a e st l. rw (low-first (i .0) (P (i .0) .bytes (i .1)) (z (i .0) (y .0))) (inside-goes st (f (i .0) (y .0) .complete at a e (st .order) (omega (arith, st .inside)) (i .1) (y .1) r (st .within)));
+    complete = λ i y r end at a e st l. rw (low-first (i .0) (P (i .0) .bytes (i .1)) (z (i .0) (y .0))) (inside-goes st (f (i .0) (y .0) .complete at a e (omega (arith, st .after)) (st .order) (omega (arith, st .inside)) (i .1) (y .1) r (st .within)));
   }
 
 -- a component: it is there, or it may lack
@@ -467,39 +457,39 @@ slotLook (Default d) t = look (λ x. eqb x t) true (tags (t ∷ []))
 
 module _ {s : List ℕ} (I : Item) {end at : ℕ} where
   to-some : {l m : List ℕ} {r : Res} → Reads s (one I) (λ _. 0) 0 0 (tags l) end at r → Reads s (optional I) (λ _. 0) 0 0 (tags m) end at r
-  to-some refuses = refuses
-  to-some (takes f) = takes (record { it = some (f .it); meets = f .meets; low = f .low; high = f .high; bytes = f .bytes; book = f .book; counted = f .counted; room = f .room; closes = λ u. absurd u })
+  to-some (refuses p o) = refuses p o
+  to-some (takes f) = takes (record { it = some (f .it); meets = f .meets; low = f .low; high = f .high; bytes = f .bytes; book = f .book; counted = f .counted; marks = f .marks; room = f .room; closes = λ u. absurd u })
 
   lacking : {l : List ℕ} → at ≤ end → Reads s (optional I) (λ _. 0) 0 0 (tags l) end at (took [] [] at)
-  lacking h = takes (record { it = none; meets = tt; low = le-refl at; high = h; bytes = refl; book = refl; counted = refl; room = le-refl 0; closes = λ u. absurd u })
+  lacking h = takes (record { it = none; meets = tt; low = le-refl at; high = h; bytes = refl; book = refl; counted = refl; marks = tt; room = le-refl 0; closes = λ u. absurd u })
 
   slot-there : (need : Need) (t : ℕ) {r : Res} → Reads s (one I) (λ _. 0) 0 0 (tags []) end at r → Reads s (slot need I) (λ _. 0) 0 0 (slotLook need t .stop) end at r
   slot-there Required t f = f
   slot-there Optional t f = to-some f
   slot-there (Default d) t f = to-some f
 
-  slot-absent : (need : Need) (t : ℕ) (f : Fault) (p : ℕ) → at ≤ end → Reads s (slot need I) (λ _. 0) 0 0 (slotLook need t .stop) end at (absent need at (fails f p))
-  slot-absent Required t f p h = refuses
-  slot-absent Optional t f p h = lacking h
-  slot-absent (Default d) t f p h = lacking h
+  slot-absent : (need : Need) (t : ℕ) (f : Fault) (p : ℕ) → p ≤ length s → at ≤ end → Reads s (slot need I) (λ _. 0) 0 0 (slotLook need t .stop) end at (absent need at (fails f p))
+  slot-absent Required t f p o h = refuses p o
+  slot-absent Optional t f p o h = lacking h
+  slot-absent (Default d) t f p o h = lacking h
 
 module _ (s : List ℕ) (bytes : Bytes s) (small : length s ≤ 32768) {P : Part} {b : Body} (tag : ℕ) (z : LowTag tag) (f : PlainBody s b P) where
   abbrev it : Item
   it = tagged tag P
 
-  law : ItemLaw s (λ _. b) it (λ _. 0) 0 0 (λ t. eqb t tag)
+  law : ItemLaw s (λ _. b) it (λ _. 0) 0 0 (λ x. firstOf x ≡ tag)
   law = tagged-law s bytes small tag z f
 
   due-sound : (need : Need) (end at : ℕ) → at ≤ end → end ≤ length s → Reads s (slot need it) (λ _. 0) 0 0 (slotLook need tag .stop) end at (component s tag need b end at)
   unfolding component
   due-sound need end at h l =
       by-choose (Reads s (slot need it) (λ _. 0) 0 0 (slotLook need tag .stop) end at) (ltb at end) (λ _ _.
-      by-head s bytes small (Reads s (slot need it) (λ _. 0) 0 0 (slotLook need tag .stop) end at) (due tag need b at) end at l (λ _ _. refuses) (λ t a e v.
+      by-head s bytes small (Reads s (slot need it) (λ _. 0) 0 0 (slotLook need tag .stop) end at) (due tag need b at) end at h l (λ _ p o. refuses p o) (λ t a e v.
       let st = v .stands in
       by-choose (Reads s (slot need it) (λ _. 0) 0 0 (slotLook need tag .stop) end at) (eqb t tag)
-      (λ _ q. slot-there it need tag (widen s bytes small [] (omega (arith, st .after, st .order)) (st .inside) (law .sound (v .x) (v .element) (rw (v .tag) q) end at a e st l)))
-      (λ _ _. slot-absent it need tag NotDue at h)))
-      (λ _ _. slot-absent it need tag Missing end h)
+      (λ _ q. slot-there it need tag (widen s bytes small [] (omega (arith, st .after, st .order)) (st .inside) (law .sound (v .x) (v .element) (v .tag ∙ eqb-true t tag q) end at a e st l)))
+      (λ _ _. slot-absent it need tag NotDue at (omega arith) h)))
+      (λ _ _. slot-absent it need tag Missing end l h)
 
   -- it is there
   there : (need : Need) (end at : ℕ) → at ≤ end → end ≤ length s → (x : P .Of) → P .Meets x → (w : List ℕ) → slice at end s ≡ elementBytes (low tag (P .bytes x)) ++ w → Goes s end at (P .book x) 0 w (component s tag need b end at)

@@ -1,49 +1,41 @@
 -- Laws of what is chosen by a tag, of what is sealed, of a record in front, and of repetition.
 use Prim.Native.Nat.{ℕ, zero, suc, _+_, _-_, _≤_}
 use mathlib.Core.List.{List, [], _∷_, _++_, append-assoc}
-use mathlib.Core.Bool.{Bool, true, false, not, _&&_}
+use mathlib.Core.Bool.{Bool, true, false, not}
 use mathlib.Core.Logic.{_⊎_, inl, inr}
 use mathlib.Core.Path.{_≡_, refl, sym, ap, _∙_, subst}
 use native.Mathlib.Omega.{arith}
 use native.Mathlib.Nat.{le-refl}
 use lib.ListN.{length, length-append}
 use lib.Seq.{slice, length-slice}
-use lib.Dec.{eqb, T, T-not}
-use borrow.Author.Tests.{ltb-false, lt-ltb, le-ltb, eqb-true, eq-eqb, not-true}
+use lib.Dec.{T, T-not}
+use borrow.Author.Tests.{ltb-false, lt-ltb, le-ltb}
 use Rattle.elements.specs.declared.fault.Fault.{Fault}
 use Rattle.elements.specs.declared.answer.Run.{Run}
 use Rattle.elements.specs.declared.answer.Run.the-variants.{Ends, Refused}
 use Rattle.elements.specs.Choice.{choose}
-use Rattle.elements.specs.ChoiceLaws.{by-choose, both-true}
+use Rattle.elements.specs.ChoiceLaws.{by-choose}
 use Rattle.elements.specs.Lists.{Bytes}
 use Rattle.elements.specs.Length.{tagBytes}
 use Rattle.elements.specs.Sealed.{constructed, sealedRun}
+use Rattle.elements.specs.SealedLaws.{sealed-refuses}
 use Rattle.rules.specs.Reading.{Rec, rec, Res, took, fails, also, Reader, Body}
 use Rattle.rules.specs.Parts as parts
+use Rattle.rules.specs.Rulings.{counts}
 use Rattle.rules.specs.Parts.{counted, repeat, toEnd, keep}
 use Rattle.rules.specs.Grammar.{Element, low, elementBytes, firstOf, IsElement, SealedIn, Part, Item, _or_, one, behind, many, sealedOne, flat, AllMeet, total}
 use Rattle.rules.specs.ElementLaws.{tag-is, is-end, Stands, run-sound, run-complete, head-complete}
-use Rattle.rules.specs.GrammarLaws.{Stop, tags, close, Look, look, Starts, without, begun, Follows, Facts, Reads, refuses, takes, Goes, Law, BodyLaw, Plain, PlainBody, ItemLaw, whole-reads, whole-goes}
-
-pub clash : (b : Bool) → b ≡ true → b ≡ false → ⊥
-clash true p q = let z : _≡_ {A = ℕ} 0 1 = cc in omega arith
-clash false p q = let z : _≡_ {A = ℕ} 0 1 = cc in omega arith
-
-pub tests-both : (a b : Bool) → a ≡ true → b ≡ true → (a && b) ≡ true
-tests-both a b p q = rw (p, q) refl
-
-pub tests-not : (a b : Bool) → a ≡ true → b ≡ false → (a && not b) ≡ true
-tests-not a b p q = rw (p, q) refl
+use Rattle.rules.specs.GrammarLaws.{marks-append, Stop, tags, close, Look, look, Starts, without, begun, Follows, Facts, Reads, refuses, takes, Goes, Law, BodyLaw, Plain, PlainBody, ItemLaw, whole-reads, whole-goes}
 
 -- the same with more room
 pub lift-reads : {s : List ℕ} {P : Part} {t : Stop} {end at : ℕ} (k N : ℕ) {r : Res} → k ≤ N → Reads s P (λ _. 0) 0 0 t end at r → Reads s P (λ _. 0) k N t end at r
-lift-reads k N h refuses = refuses
-lift-reads k N h (takes f) = takes (record { it = f .it; meets = f .meets; low = f .low; high = f .high; bytes = f .bytes; book = f .book; counted = f .counted; room = omega arith; closes = f .closes })
+lift-reads k N h (refuses p o) = refuses p o
+lift-reads k N h (takes f) = takes (record { it = f .it; meets = f .meets; low = f .low; high = f .high; bytes = f .bytes; book = f .book; counted = f .counted; marks = f .marks; room = omega arith; closes = f .closes })
 
 pub lift-body : {s : List ℕ} {b : Body} {P : Part} (k N : ℕ) → k ≤ N → PlainBody s b P → BodyLaw s b P (λ _. 0) k N
-lift-body k N h f = record { sound = λ at a e i l. lift-reads k N h (f .sound at a e i l); complete = λ at a e i l x y _ q. f .complete at a e i l x y (le-refl 0) q }
+lift-body k N h f = record { sound = λ at a e j i l. lift-reads k N h (f .sound at a e j i l); complete = λ at a e j i l x y _ q. f .complete at a e j i l x y (le-refl 0) q }
 
-pub lift-item : {s : List ℕ} {b : ℕ → Body} {I : Item} {dom : ℕ → Bool} (k N : ℕ) → k ≤ N → ItemLaw s b I (λ _. 0) 0 0 dom → ItemLaw s b I (λ _. 0) k N dom
+pub lift-item : {s : List ℕ} {b : ℕ → Body} {I : Item} {dom : Element → Type 0} (k N : ℕ) → k ≤ N → ItemLaw s b I (λ _. 0) 0 0 dom → ItemLaw s b I (λ _. 0) k N dom
 lift-item k N h f = record {
   sound = λ x i d end at a e st l. lift-reads k N h (f .sound x i d end at a e st l);
   is = f .is;
@@ -51,62 +43,57 @@ lift-item k N h f = record {
   complete = λ i y _ end at a e st l. f .complete i y (le-refl 0) end at a e st l;
 }
 
--- for fewer tags
-pub narrow : {s : List ℕ} {b : ℕ → Body} {I : Item} {c : I .Of → ℕ} {k N : ℕ} {dom : ℕ → Bool} (to : ℕ → Bool) → ((t : ℕ) → to t ≡ true → dom t ≡ true) → ((t : ℕ) → dom t ≡ true → to t ≡ true) → ItemLaw s b I c k N dom → ItemLaw s b I c k N to
+-- for others
+pub narrow : {s : List ℕ} {b : ℕ → Body} {I : Item} {c : I .Of → ℕ} {k N : ℕ} {dom : Element → Type 0} (to : Element → Type 0) → ((x : Element) → to x → dom x) → ((x : Element) → dom x → to x) → ItemLaw s b I c k N dom → ItemLaw s b I c k N to
 narrow to g h f = record {
-  sound = λ x i d end at a e st l. f .sound x i (g (firstOf x) d) end at a e st l;
+  sound = λ x i d end at a e st l. f .sound x i (g x d) end at a e st l;
   is = f .is;
   begins = λ i y. h _ (f .begins i y);
   complete = f .complete;
 }
 
+-- the same element as another item
+pub mapped-reads : {s : List ℕ} (I J : Item) {c : I .Of → ℕ} (d : J .Of → ℕ) {k N : ℕ} {t : Stop} {end at : ℕ} (f : I .Of → J .Of) → ((i : I .Of) → J .shape (f i) ≡ I .shape i) → ((i : I .Of) → I .book i ≡ J .book (f i)) →
+    ((i : I .Of) → I .Meets i → J .Meets (f i)) → ((i : I .Of) → c i ≡ d (f i)) → {r : Res} → Reads s (one I) c k N t end at r → Reads s (one J) d k N t end at r
+mapped-reads I J d f sh bk mt ct (refuses p o) = refuses p o
+mapped-reads I J d f sh bk mt ct (takes {n = n} g) = takes {n = n} (record { it = f (g .it); meets = mt (g .it) (g .meets); low = g .low; high = g .high; bytes = g .bytes ∙ rw (sh (g .it)) refl; book = g .book ∙ bk (g .it); counted = g .counted ∙ ct (g .it); marks = g .marks; room = omega (arith, g .room, ct (g .it)); closes = g .closes })
+
 -- one way or the other, by a test of the tag
 module _ {s : List ℕ} (I J : Item) (C : (I .Of ⊎ J .Of) → ℕ) {k N : ℕ} where
-  left-reads : {t : Stop} {end at : ℕ} {r : Res} → Reads s (one I) (λ i. C (inl i)) k N t end at r → Reads s (one (I or J)) C k N t end at r
-  left-reads refuses = refuses
-  left-reads (takes f) = takes (record { it = inl (f .it); meets = f .meets; low = f .low; high = f .high; bytes = f .bytes; book = f .book; counted = f .counted; room = f .room; closes = f .closes })
-
-  right-reads : {t : Stop} {end at : ℕ} {r : Res} → Reads s (one J) (λ j. C (inr j)) k N t end at r → Reads s (one (I or J)) C k N t end at r
-  right-reads refuses = refuses
-  right-reads (takes f) = takes (record { it = inr (f .it); meets = f .meets; low = f .low; high = f .high; bytes = f .bytes; book = f .book; counted = f .counted; room = f .room; closes = f .closes })
-
-  pub or-law : {b d : ℕ → Body} (h test : ℕ → Bool) → ItemLaw s b I (λ i. C (inl i)) k N (λ t. h t && test t) → ItemLaw s d J (λ j. C (inr j)) k N (λ t. h t && not (test t)) →
+  pub or-law : {b d : ℕ → Body} (h : Element → Type 0) (test : ℕ → Bool) → ItemLaw s b I (λ i. C (inl i)) k N (λ x. h x × (test (firstOf x) ≡ true)) → ItemLaw s d J (λ j. C (inr j)) k N (λ x. h x × (test (firstOf x) ≡ false)) →
       ItemLaw s (λ t at a e. choose (test t) (λ _. b t at a e) (λ _. d t at a e)) (I or J) C k N h
   or-law h test f g = record {
     sound = λ x i m end at a e st l.
         by-choose (Reads s (one (I or J)) C k N close e at) (test (firstOf x))
-        (λ _ q. left-reads (f .sound x i (tests-both (h (firstOf x)) (test (firstOf x)) m q) end at a e st l))
-        (λ _ q. right-reads (g .sound x i (tests-not (h (firstOf x)) (test (firstOf x)) m q) end at a e st l));
+        (λ _ q. mapped-reads I (I or J) C inl (λ _. refl) (λ _. refl) (λ _ m. m) (λ _. refl) (f .sound x i (m, q) end at a e st l))
+        (λ _ q. mapped-reads J (I or J) C inr (λ _. refl) (λ _. refl) (λ _ m. m) (λ _. refl) (g .sound x i (m, q) end at a e st l));
     is = elim [ inl i ↦ f .is i | inr j ↦ g .is j ];
-    begins = elim [ inl i ↦ (λ y. both-true (h (firstOf (I .shape i))) (test (firstOf (I .shape i))) (f .begins i y) .0) | inr j ↦ (λ y. both-true (h (firstOf (J .shape j))) (not (test (firstOf (J .shape j)))) (g .begins j y) .0) ];
+    begins = elim [ inl i ↦ (λ y. f .begins i y .0) | inr j ↦ (λ y. g .begins j y .0) ];
     complete = elim [
-      | inl i ↦ (λ y r end at a e st l. rw (both-true (h (firstOf (I .shape i))) (test (firstOf (I .shape i))) (f .begins i y) .1) (f .complete i y r end at a e st l))
-      | inr j ↦ (λ y r end at a e st l. rw (not-true (test (firstOf (J .shape j))) (both-true (h (firstOf (J .shape j))) (not (test (firstOf (J .shape j)))) (g .begins j y) .1)) (g .complete j y r end at a e st l))
+      | inl i ↦ (λ y r end at a e st l. rw (f .begins i y .1) (f .complete i y r end at a e st l))
+      | inr j ↦ (λ y r end at a e st l. rw (g .begins j y .1) (g .complete j y r end at a e st l))
     ];
   }
 
 -- or a refusal
-pub otherwise-law : {s : List ℕ} {b : ℕ → Body} {I : Item} {c : I .Of → ℕ} {k N : ℕ} (x : Fault) (h test : ℕ → Bool) → ItemLaw s b I c k N (λ t. h t && test t) → ItemLaw s (λ t at a e. choose (test t) (λ _. b t at a e) (λ _. fails x at)) I c k N h
+pub otherwise-law : {s : List ℕ} {b : ℕ → Body} {I : Item} {c : I .Of → ℕ} {k N : ℕ} (x : Fault) (h : Element → Type 0) (test : ℕ → Bool) → ItemLaw s b I c k N (λ x. h x × (test (firstOf x) ≡ true)) → ItemLaw s (λ t at a e. choose (test t) (λ _. b t at a e) (λ _. fails x at)) I c k N h
 otherwise-law {s} {b} {I} {c} {k} {N} z h test f = record {
-  sound = λ x i m end at a e st l. by-choose (Reads s (one I) c k N close e at) (test (firstOf x)) (λ _ q. f .sound x i (tests-both (h (firstOf x)) (test (firstOf x)) m q) end at a e st l) (λ _ _. refuses);
+  sound = λ x i m end at a e st l. by-choose (Reads s (one I) c k N close e at) (test (firstOf x)) (λ _ q. f .sound x i (m, q) end at a e st l) (λ _ _. refuses at (omega (arith, st .after, st .order, st .inside)));
   is = f .is;
-  begins = λ i y. both-true (h (firstOf (I .shape i))) (test (firstOf (I .shape i))) (f .begins i y) .0;
-  complete = λ i y r end at a e st l. rw (both-true (h (firstOf (I .shape i))) (test (firstOf (I .shape i))) (f .begins i y) .1) (f .complete i y r end at a e st l);
+  begins = λ i y. f .begins i y .0;
+  complete = λ i y r end at a e st l. rw (f .begins i y .1) (f .complete i y r end at a e st l);
 }
 
 -- a record in front
 pub behind-reads : {s : List ℕ} {P : Part} {c : P .Of → ℕ} {k N : ℕ} {t : Stop} {end at : ℕ} {r : Res} (b : Rec) → Reads s P c k N t end at r → Reads s (behind P (λ _. b)) c k N t end at (also (b ∷ []) [] r)
-behind-reads b refuses = refuses
-behind-reads b (takes {rs = rs} {ms = ms} {n = n} f) = takes {rs = b ∷ rs} {ms = ms} {n = n} (record { it = f .it; meets = f .meets; low = f .low; high = f .high; bytes = f .bytes; book = rw (f .book) refl; counted = f .counted; room = f .room; closes = f .closes })
+behind-reads b (refuses p o) = refuses p o
+behind-reads b (takes {rs = rs} {ms = ms} {n = n} f) = takes {rs = b ∷ rs} {ms = ms} {n = n} (record { it = f .it; meets = f .meets; low = f .low; high = f .high; bytes = f .bytes; book = rw (f .book) refl; counted = f .counted; marks = f .marks; room = f .room; closes = f .closes })
 
 pub behind-goes : {s : List ℕ} {end at : ℕ} {rs : List Rec} {m : ℕ} {w : List ℕ} {r : Res} (b : Rec) → Goes s end at rs m w r → Goes s end at (b ∷ rs) m w (also (b ∷ []) [] r)
 behind-goes b g = record { ms = g .ms; n = g .n; is = rw (g .is) refl; counted = g .counted; low = g .low; high = g .high; left = g .left }
 
 pub behind-body : {s : List ℕ} {b : Body} {P : Part} {c : P .Of → ℕ} {k N : ℕ} (r : Rec) → BodyLaw s b P c k N → BodyLaw s (λ at a e. also (r ∷ []) [] (b at a e)) (behind P (λ _. r)) c k N
-behind-body r f = record { sound = λ at a e h l. behind-reads r (f .sound at a e h l); complete = λ at a e h l x y z q. behind-goes r (f .complete at a e h l x y z q) }
-
-pub behind-law : {s : List ℕ} {p : Reader} {P : Part} {c : P .Of → ℕ} {k N : ℕ} {L : Look} (r : Rec) → Law s p P c k N L → Law s (λ end at. also (r ∷ []) [] (p end at)) (behind P (λ _. r)) c k N L
-behind-law r f = record { sound = λ end at h l. behind-reads r (f .sound end at h l); starts = f .starts; complete = λ end at h l x y z w v e. behind-goes r (f .complete end at h l x y z w v e) }
+behind-body r f = record { sound = λ at a e i h l. behind-reads r (f .sound at a e i h l); complete = λ at a e i h l x y z q. behind-goes r (f .complete at a e i h l x y z q) }
 
 module _ (s : List ℕ) (bytes : Bytes s) (small : length s ≤ 32768) where
   -- a sealed element
@@ -118,7 +105,11 @@ module _ (s : List ℕ) (bytes : Bytes s) (small : length s ≤ 32768) where
   inner-complete true c a e h l q r = run-complete s small 15 [] a e h l (rw q r)
   inner-complete false c a e h l q r = refl
 
-  pub sealed-law : (which : ℕ → Bool) (kind : ℕ) (front : ℕ → List ℕ) → ItemLaw s (λ t at a e. parts.sealed s kind (front t) t at a e) (sealedOne which kind front) (λ _. 0) 0 0 which
+  inner-placed : (b : Bool) (a e : ℕ) {f : Fault} {p : ℕ} → a ≤ e → e ≤ length s → choose b (λ _. sealedRun 15 s [] a e) (λ _. Ends e) ≡ Refused f p → p ≤ length s
+  inner-placed true a e h l q = omega (arith, sealed-refuses 15 s [] a e h q .1)
+  inner-placed false a e h l q = let z : _≡_ {A = ℕ} 0 1 = cc in absurd (omega arith)
+
+  pub sealed-law : (which : ℕ → Bool) (kind : ℕ) (front : ℕ → List ℕ) → ItemLaw s (λ t at a e. parts.sealed s kind (front t) t at a e) (sealedOne which kind front) (λ _. 0) 0 0 (λ x. which (firstOf x) ≡ true)
   unfolding parts.sealed
   sealed-law which kind front = record {
     sound = λ x i m end at a e st l. go x i m end at a e st l (choose (constructed (firstOf x)) (λ _. sealedRun 15 s [] a e) (λ _. Ends e)) refl;
@@ -129,7 +120,7 @@ module _ (s : List ℕ) (bytes : Bytes s) (small : length s ≤ 32768) where
     where
       go : (x : Element) → IsElement x → which (firstOf x) ≡ true → (end at a e : ℕ) → Stands s at end x a e → end ≤ length s → (r : Run) → choose (constructed (firstOf x)) (λ _. sealedRun 15 s [] a e) (λ _. Ends e) ≡ r →
           Reads s (one (sealedOne which kind front)) (λ _. 0) 0 0 close e at (keep (rec kind (front (firstOf x) ++ slice at e s) ∷ []) e r)
-      go x i m end at a e st l (Refused f p) q = refuses
+      go x i m end at a e st l (Refused f p) q = refuses p (inner-placed (constructed (firstOf x)) a e (st .order) (omega (arith, st .inside)) q)
       go x i m end at a e st l (Ends n) q =
           whole-reads (one (sealedOne which kind front)) (rec kind (front (firstOf x) ++ slice at e s) ∷ []) x (i, inner-sound (constructed (firstOf x)) (x .contents) a e n (st .order) (omega (arith, st .inside)) (st .within) q, m) (omega (arith, st .after, st .order)) (st .whole) (rw (st .whole) refl)
 
@@ -151,12 +142,12 @@ progress s b w at n end h i l e q =
     omega arith
 
 pub data ManyReads (s : List ℕ) (P : Part) (c : P .Of → ℕ) (k N : ℕ) (more : ℕ → ℕ → Bool) (end at : ℕ) : Res → Type 0 where
-  stopped : {f : Fault} {p : ℕ} → ManyReads s P c k N more end at (fails f p)
+  stopped : {f : Fault} (p : ℕ) → p ≤ length s → ManyReads s P c k N more end at (fails f p)
   went : {rs : List Rec} {ms : List ℕ} {n : ℕ} → Facts s (many P) (total c) k N (tags []) end at rs ms n → more end n ≡ false → ManyReads s P c k N more end at (took rs ms n)
 
 module _ {s : List ℕ} (P : Part) (c : P .Of → ℕ) (N : ℕ) (more : ℕ → ℕ → Bool) (f : ℕ → Reader) {L : Look} (item : (j : ℕ) → j ≤ N → Law s (f j) P c j N L) where
   many-also : {k end at m : ℕ} {bs : List Rec} {ms : List ℕ} {r : Res} → Facts s P c k N (L .stop) end at bs ms m → ManyReads s P c (k + length ms) N more end m r → ManyReads s P c k N more end at (also bs ms r)
-  many-also x stopped = stopped
+  many-also x (stopped p o) = stopped p o
   many-also {k} {end} {at} {m} {bs} {ms} x (went {rs = cs} {ms = ns} {n = n} y g) = went {rs = bs ++ cs} {ms = ms ++ ns} {n = n} (record {
     it = x .it ∷ y .it;
     meets = (x .meets, y .meets);
@@ -165,20 +156,21 @@ module _ {s : List ℕ} (P : Part) (c : P .Of → ℕ) (N : ℕ) (more : ℕ →
     bytes = x .bytes ∙ rw (y .bytes) (sym (append-assoc (P .bytes (x .it)) (flat (P .bytes) (y .it)) (slice n end s)));
     book = rw (x .book, y .book) refl;
     counted = length-append ms ns ∙ omega (arith, x .counted, y .counted);
+    marks = marks-append (length s) ms ns (x .marks) (y .marks);
     room = omega (arith, y .room, x .counted);
     closes = λ u. absurd u;
   }) g
 
   many-counted : {k end at : ℕ} {r : Res} {q : ℕ → ℕ → Res} → ((i n : ℕ) → k + i ≤ N → at ≤ n → n ≤ end → ManyReads s P c (k + i) N more end n (q i n)) → Reads s P c k N (L .stop) end at r → ManyReads s P c k N more end at (counted r q)
-  many-counted ih refuses = stopped
+  many-counted ih (refuses p o) = stopped p o
   many-counted ih (takes {ms = ms} {n = n} x) = many-also x (ih (length ms) n (omega (arith, x .counted, x .room)) (x .low) (x .high))
 
   many-end : (k end at : ℕ) → k ≤ N → at ≤ end → more end at ≡ false → ManyReads s P c k N more end at (took [] [] at)
-  many-end k end at i h g = went {rs = []} {ms = []} {n = at} (record { it = []; meets = tt; low = le-refl at; high = h; bytes = refl; book = refl; counted = refl; room = omega arith; closes = λ u. absurd u }) g
+  many-end k end at i h g = went {rs = []} {ms = []} {n = at} (record { it = []; meets = tt; low = le-refl at; high = h; bytes = refl; book = refl; counted = refl; marks = tt; room = omega arith; closes = λ u. absurd u }) g
 
   pub many-sound : (g k end at : ℕ) → k ≤ N → at ≤ end → end ≤ length s → ManyReads s P c k N more end at (repeat more f g k end at)
   unfolding repeat
-  many-sound zero k end at i h l = by-choose (ManyReads s P c k N more end at) (more end at) (λ _ _. stopped) (λ _ e. many-end k end at i h e)
+  many-sound zero k end at i h l = by-choose (ManyReads s P c k N more end at) (more end at) (λ _ _. stopped end l) (λ _ e. many-end k end at i h e)
   many-sound (suc g) k end at i h l =
       by-choose (ManyReads s P c k N more end at) (more end at) (λ _ _. many-counted (λ j n u v w. many-sound g (k + j) end n u w l) (item k i .sound end at h l)) (λ _ e. many-end k end at i h e)
 
@@ -224,8 +216,8 @@ module _ {s : List ℕ} (P : Part) (c : P .Of → ℕ) (N : ℕ) (more : ℕ →
 -- up to the end of a container
 module _ {s : List ℕ} {P : Part} {c : P .Of → ℕ} {N : ℕ} (small : length s ≤ 32768) (f : ℕ → Reader) {L : Look} (item : (j : ℕ) → j ≤ N → Law s (f j) P c j N L) (solid : T (not (L .empty))) (free : L .stop ≡ tags []) where
   list-reads : {k end at : ℕ} {r : Res} → ManyReads s P c k N toEnd end at r → Reads s (many P) (total c) k N close end at r
-  list-reads stopped = refuses
-  list-reads {end = end} (went {n = n} x g) = takes {n = n} (record { it = x .it; meets = x .meets; low = x .low; high = x .high; bytes = x .bytes; book = x .book; counted = x .counted; room = x .room; closes = λ _. omega (arith, x .high, ltb-false n end g) })
+  list-reads (stopped p o) = refuses p o
+  list-reads {end = end} (went {n = n} x g) = takes {n = n} (record { it = x .it; meets = x .meets; low = x .low; high = x .high; bytes = x .bytes; book = x .book; counted = x .counted; marks = x .marks; room = x .room; closes = λ _. omega (arith, x .high, ltb-false n end g) })
 
   list-goes : (end at : ℕ) (x : Element) (w : List ℕ) → at ≤ end → end ≤ length s → IsElement x → L .first (firstOf x) ≡ true → slice at end s ≡ elementBytes x ++ w → toEnd end at ≡ true
   list-goes end at x w h l i m e = let v = head-complete s small at end x w h l i e in lt-ltb at end (omega (arith, v .stands .after, v .stands .order, v .stands .inside))
@@ -238,29 +230,13 @@ module _ {s : List ℕ} {P : Part} {c : P .Of → ℕ} {N : ℕ} (small : length
         many-complete P c N toEnd f item solid free list-goes x y (end - at) k end at r h l (le-refl (end - at)) w e (λ n u q. le-ltb n end (omega (arith, is-end s n end u l (q ∙ v))));
   }
 
--- a body that does the same
-pub item-same : {s : List ℕ} {b d : ℕ → Body} {I : Item} {c : I .Of → ℕ} {k N : ℕ} {dom : ℕ → Bool} → ((t at a e : ℕ) → d t at a e ≡ b t at a e) → ItemLaw s b I c k N dom → ItemLaw s d I c k N dom
-item-same {I = I} g f = record {
-  sound = λ x i m end at a e st l. rw (g (firstOf x) at a e) (f .sound x i m end at a e st l);
-  is = f .is;
-  begins = f .begins;
-  complete = λ i y r end at a e st l. rw (g (firstOf (I .shape i)) at a e) (f .complete i y r end at a e st l);
-}
-
--- a tag among fewer
-pub only-tag : (tag : ℕ) (g : ℕ → Bool) → g tag ≡ true → (t : ℕ) → eqb t tag ≡ true → (g t && eqb t tag) ≡ true
-only-tag tag g h t e = let z : t ≡ tag = eqb-true t tag e in rw (z, h) (eq-eqb tag tag refl)
-
-pub tag-only : (tag : ℕ) (g : ℕ → Bool) (t : ℕ) → (g t && eqb t tag) ≡ true → eqb t tag ≡ true
-tag-only tag g t e = both-true (g t) (eqb t tag) e .1
-
 pub lift-law : {s : List ℕ} {p : Reader} {P : Part} {L : Look} (k N : ℕ) → k ≤ N → Plain s p P L → Law s p P (λ _. 0) k N L
 lift-law k N h f = record { sound = λ end at i l. lift-reads k N h (f .sound end at i l); starts = f .starts; complete = λ end at i l x y _ w v e. f .complete end at i l x y (le-refl 0) w v e }
 
 -- counted otherwise
 recount-reads : {s : List ℕ} {P : Part} {c : P .Of → ℕ} (d : P .Of → ℕ) {k N : ℕ} {t : Stop} {end at : ℕ} {r : Res} → ((x : P .Of) → c x ≡ d x) → Reads s P c k N t end at r → Reads s P d k N t end at r
-recount-reads d g refuses = refuses
-recount-reads d g (takes f) = takes (record { it = f .it; meets = f .meets; low = f .low; high = f .high; bytes = f .bytes; book = f .book; counted = f .counted ∙ g (f .it); room = omega (arith, f .room, g (f .it)); closes = f .closes })
+recount-reads d g (refuses p o) = refuses p o
+recount-reads d g (takes f) = takes (record { it = f .it; meets = f .meets; low = f .low; high = f .high; bytes = f .bytes; book = f .book; counted = f .counted ∙ g (f .it); marks = f .marks; room = omega (arith, f .room, g (f .it)); closes = f .closes })
 
 pub recount : {s : List ℕ} {p : Reader} {P : Part} {c : P .Of → ℕ} (d : P .Of → ℕ) {k N : ℕ} {L : Look} → ((x : P .Of) → c x ≡ d x) → Law s p P c k N L → Law s p P d k N L
 recount d g f = record {
@@ -277,8 +253,17 @@ total-none (x ∷ xs) = omega (arith, total-none xs)
 
 pub recount-body : {s : List ℕ} {b : Body} {P : Part} {c : P .Of → ℕ} (d : P .Of → ℕ) {k N : ℕ} → ((x : P .Of) → c x ≡ d x) → BodyLaw s b P c k N → BodyLaw s b P d k N
 recount-body d g f = record {
-  sound = λ at a e h l. recount-reads d g (f .sound at a e h l);
-  complete = λ at a e h l x y r q.
-      let i = f .complete at a e h l x y (omega (arith, g x)) q in
+  sound = λ at a e i h l. recount-reads d g (f .sound at a e i h l);
+  complete = λ at a e j h l x y r q.
+      let i = f .complete at a e j h l x y (omega (arith, g x)) q in
       record { ms = i .ms; n = i .n; is = i .is; counted = i .counted ∙ g x; low = i .low; high = i .high; left = i .left };
 }
+
+-- it counts once, whatever is counted inside it
+module _ {s : List ℕ} {P : Part} {end at : ℕ} where
+  pub counts-reads : {c : P .Of → ℕ} {j M : ℕ} {t : Stop} (k N p : ℕ) {r : Res} → p ≤ length s → k + 1 ≤ N → Reads s P c j M t end at r → Reads s P (λ _. 1) k N t end at (counts p r)
+  counts-reads k N p l h (refuses q o) = refuses q o
+  counts-reads k N p l h (takes {rs = rs} {n = n} f) = takes {rs = rs} {ms = p ∷ []} {n = n} (record { it = f .it; meets = f .meets; low = f .low; high = f .high; bytes = f .bytes; book = f .book; counted = refl; marks = (l, tt); room = h; closes = f .closes })
+
+pub counts-goes : {s : List ℕ} {end at : ℕ} (p : ℕ) {rs : List Rec} {m : ℕ} {w : List ℕ} {r : Res} → Goes s end at rs m w r → Goes s end at rs 1 w (counts p r)
+counts-goes p g = record { ms = p ∷ []; n = g .n; is = rw (g .is) refl; counted = refl; low = g .low; high = g .high; left = g .left }

@@ -1,8 +1,7 @@
 -- "Layouts and book kinds" of document 01, each said once: what it is, how it is read and rendered, and that these agree.
 use Prim.Native.Nat.{ℕ, _/_, _%_}
 use mathlib.Core.Path.{_≡_}
-use mathlib.Core.List.{List, [], _∷_}
-use mathlib.Core.Option.{none}
+use mathlib.Core.List.{[], _∷_}
 use native.Mathlib.Omega.{arith}
 use lib.Dec.{eqb}
 use borrow.Author.Tests.{eqb-true}
@@ -15,12 +14,9 @@ use Rattle.rules.specs.Parts.{keptOut}
 use Rattle.rules.specs.Tables.{ciaRows, commonRows, ruleRows, keyRows, certificateRows, authenticationRows, pathRows, privateRows, passwordRows, typeOf, classOf}
 use Rattle.rules.specs.Rulings.{paired, flagged, quiet}
 use Rattle.rules.specs.Grammar as grammar
-unfoldable pub use Rattle.rules.specs.Conditions.{condition}
-use Rattle.rules.specs.Conditions.{condLook}
-use Rattle.rules.specs.Kinds.{conditionKinds, condition-only}
-use Rattle.rules.specs.Bytewise.{condition-b}
-use Rattle.rules.specs.ConditionRound as round
-use Rattle.rules.specs.ConditionLaws as exact
+use Rattle.rules.specs.Conditions.{condition}
+use Rattle.rules.specs.ConditionRender.{kindsLook, condition-renders, condition-clean, condition-only}
+use Rattle.rules.specs.ConditionLaws.{condLook, plain-condition}
 use Rattle.rules.specs.Layout.{Layout, Single, _and_, fields, rest, ended, apart, with, due, told, maybe, atLeastOne, sealedAll, one, sealedOne, kept, orSealed, byClass, byType, alone, OfClass, classKinds, OfType, typeKinds}
 use Rattle.rules.specs.Checking.{BothOrNeither, pairs, flags}
 
@@ -28,19 +24,23 @@ use Rattle.rules.specs.Checking.{BothOrNeither, pairs, flags}
 unfoldable pub path : Layout
 path = with (ended (fields pathRows)) paired (λ (p, (index, (len, _))). BothOrNeither index len) pairs
 
--- "Conditions in prefix order", "At most 8 deep (house), a leaf at the top being 1"
-abbrev pub plainCondition : Layout
-plainCondition = record {
-  part = grammar.one (condition 8 .item);
-  read = λ s own end at. quiet (condition 8 .read s 0 end at);
-  render = condition 8 .render;
-  kinds = condLook;
-  tags = exact.condLook;
-  all = conditionKinds;
-  only = condition-only 8;
+-- "Conditions in prefix order", of at most so many levels
+abbrev pub conditionOf : ℕ → Layout
+conditionOf l = record {
+  part = grammar.one (condition l .item);
+  read = λ s own end at. quiet (condition l .read s 0 end at);
+  render = condition l .render;
+  kinds = kindsLook;
+  tags = condLook;
+  all = kindsLook .first;
+  only = condition-only l;
   Fine = Unit {0};
-  lawful = λ _. record { round = λ s b m own o. round.plain-condition s b m; exact = λ s b m own. exact.plain-condition s b m; clean = condition-b 8 };
+  lawful = λ _. record { exact = λ s b m own o. plain-condition s b m l; renders = condition-renders l; clean = condition-clean l };
 }
+
+-- "At most 8 deep (house), a leaf at the top being 1"
+abbrev pub plainCondition : Layout
+plainCondition = conditionOf 8
 
 -- "A rule is 30 { accessMode 03 0125, condition, rest 012C }"
 unfoldable pub rule : Layout
@@ -98,6 +98,11 @@ typed = byType types
 unfoldable pub contents : ℕ → ℕ → Layout
 contents entry tag = ended (due 0x30 common and due 0x30 (class (classOf entry)) and maybe 0xa0 subclass and due 0xa1 (ended (apart (typed (typeOf entry tag)))))
 
+-- all of these, where a law computes with them
+unfoldable pub insides : Unit {0}
+unfolding contents common rules rule class subclass typed privateKey certificate certificateValue password path
+insides = tt
+
 -- no tag and no kind in it is taken for another
 classes-fine : (c : Class) → OfClass (classKinds classes) (classes c)
 classes-fine Keys = search tt
@@ -106,20 +111,15 @@ classes-fine Authentications = search tt
 classes-fine Containers = search tt
 
 types-fine : (x : ObjectType) → OfType (typeKinds types) (types x)
-unfolding privateKey certificate certificateValue password path
+unfolding insides
 types-fine PrivateKey = search tt
 types-fine Certificate = search tt
 types-fine Password = search tt
 types-fine Sealed = search tt
 
 pub contents-fine : (entry tag : ℕ) → contents entry tag .Fine
-unfolding contents common rules rule class subclass typed privateKey certificate certificateValue password path
+unfolding insides
 contents-fine entry tag = search (tt, classes-fine, types-fine)
-
--- the kinds that may not follow it
-unfoldable pub objectStop : List ℕ
-unfolding contents common rules rule class subclass typed privateKey certificate certificateValue password path
-objectStop = contents 0 0 .kinds .stop
 
 -- "CIAInfo, SEQUENCE 30: .. rest 0106"
 unfoldable pub info : Layout

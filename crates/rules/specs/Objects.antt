@@ -1,25 +1,27 @@
--- The readers of paths, conditions, rules, and objects, out of their layouts.
-use Prim.Native.Nat.{ℕ}
-use mathlib.Core.List.{List, [], _∷_}
-use mathlib.Core.Bool.{_||_, _&&_}
-use lib.Dec.{ltb, leb, eqb}
-use Rattle.elements.specs.declared.fault.Fault.the-variants.{NotDue, ManyObjects}
-use Rattle.elements.specs.Choice.{choose}
+-- The readers of what stands in an object, out of their layouts.
+use Prim.Native.Nat.{ℕ, _-_}
+use mathlib.Core.List.{List}
+use mathlib.Core.Bool.{Bool}
 use Rattle.rules.specs.declared.table.Class.{Class}
 use Rattle.rules.specs.declared.table.ObjectType.{ObjectType}
-use Rattle.rules.specs.Reading.{rec, fails, also, Reader, Body}
-use Rattle.rules.specs.Parts.{element}
+use Rattle.rules.specs.Reading.{Reader, Body}
+use Rattle.rules.specs.Parts.{repeat}
 pub use Rattle.rules.specs.Rulings.{has, same, paired, flagged, counts, quiet, listed}
-unfoldable pub use Rattle.rules.specs.Rulings.{identified, conditionAs, conditionBody}
+unfoldable pub use Rattle.rules.specs.Rulings.{identified}
+unfoldable pub use Rattle.rules.specs.Conditions.{conditionAs, conditionBody}
+use Rattle.rules.specs.Conditions as conditions
 use Rattle.rules.specs.Layout.{bodyOf, ended, apart}
 use Rattle.rules.specs.Layouts as layouts
+use Rattle.rules.specs.Counted.{numberedBody}
+use Rattle.rules.specs.Entries as entries
+use Rattle.rules.specs.Entries.{objectTag}
 
 module _ (s : List ℕ) where
   abbrev pub path : Body
   path = bodyOf layouts.path s
 
   abbrev pub condition : ℕ → ℕ → Reader
-  condition l k = layouts.condition l .read s k
+  condition l k = conditions.condition l .read s k
 
   abbrev pub plainCondition : Reader
   plainCondition = layouts.plainCondition .read s 0
@@ -60,11 +62,13 @@ module _ (s : List ℕ) where
   abbrev pub contents : ℕ → ℕ → Reader
   contents entry tag = layouts.contents entry tag .read s 0
 
-  -- "Object: tag 30 or A0 to A7 .. Book 0120: entry tag, object tag"
   unfoldable pub objectBody : ℕ → ℕ → Body
-  objectBody entry t at a e =
-      choose (eqb t 0x30 || (leb 0xa0 t && leb t 0xa7)) (λ _. counts at (also (rec 0x0120 (entry ∷ t ∷ []) ∷ []) [] (contents entry t e a))) (λ _. fails NotDue at)
+  objectBody entry t at a e = numberedBody 0x0120 objectTag (layouts.contents entry) entry s t at a e
 
-  -- "At most 128 objects (house)": the object due at a place, after k objects of the dump
-  unfoldable pub object : ℕ → ℕ → Reader
-  object entry k end at = choose (ltb k 128) (λ _. element s (objectBody entry) end at) (λ _. fails ManyObjects at)
+  -- the object due at a place, after k objects of the dump
+  abbrev pub object : ℕ → ℕ → Reader
+  object entry k = entries.object entry .read s k
+
+  -- objects up to the end of a list, or up to the fill of a file, after k objects
+  unfoldable pub objects : (ℕ → ℕ → Bool) → ℕ → ℕ → Reader
+  objects more entry k end at = repeat more (entries.object entry .read s) (end - at) k end at

@@ -1,18 +1,19 @@
 -- The one dump that could have these records. Nothing is checked: what comes next is known by the next record's kind.
 use Prim.Native.Nat.{ℕ, _-_, _%_}
 use mathlib.Core.List.{List, [], _∷_, _++_}
-use lib.ListN.{length, getD, take, drop}
-use lib.Dec.{ltb, eqb}
-use Rattle.elements.specs.Choice.{choose}
-use Rattle.elements.specs.Length.{wrap}
+use lib.ListN.{length, take}
 use Rattle.elements.specs.Record.{recordBytes}
 use Rattle.rules.specs.declared.table.Class.{Class}
 use Rattle.rules.specs.declared.table.ObjectType.{ObjectType}
 use Rattle.rules.specs.Reading.{Rec}
 use Rattle.rules.specs.Files.{Name, namesOf}
 pub use Rattle.rules.specs.Rendering.{Rendered, gives, Renderer, nothing, _next_, within, when, either, from, plain}
-unfoldable pub use Rattle.rules.specs.Rendering.{unvalue, rRow, rRows, rKeep, rMany, rAll, rTimes, rConditionAs, rConditionOf, rFill}
-unfoldable pub use Rattle.rules.specs.Entries.{rObject, rObjects, rInside, rEntryOf, rEntry}
+unfoldable pub use Rattle.rules.specs.Rendering.{unvalue, rRow, rRows, rKeep, rMany, rAll, rTimes, rFill}
+unfoldable pub use Rattle.rules.specs.Conditions.{rConditionAs}
+use Rattle.rules.specs.Conditions as conditions
+unfoldable pub use Rattle.rules.specs.Entries.{rInside, rEntryOf, rEntry}
+use Rattle.rules.specs.Entries as entries
+use Rattle.rules.specs.Counted as counted
 use Rattle.rules.specs.FileLayouts as filing
 use Rattle.rules.specs.Layouts as layouts
 
@@ -20,7 +21,7 @@ abbrev pub rPath : Renderer
 rPath = layouts.path .render
 
 abbrev pub rCondition : ℕ → Renderer
-rCondition l = layouts.condition l .render
+rCondition l = conditions.condition l .render
 
 abbrev pub rRule : Renderer
 rRule = within 0x30 (layouts.rule .render)
@@ -48,6 +49,12 @@ rContents entry tag = layouts.contents entry tag .render
 
 abbrev pub rCia : Renderer
 rCia = layouts.cia .render
+
+unfoldable pub rObject : Renderer
+rObject = entries.object 0 .render
+
+unfoldable pub rObjects : Renderer
+rObjects = counted.listed (entries.object 0) .render
 
 unfoldable pub rOd : Renderer
 rOd = filing.od .render

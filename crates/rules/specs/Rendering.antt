@@ -12,10 +12,7 @@ use Rattle.elements.specs.Bits.{flagBytes}
 use Rattle.elements.specs.Length.{wrap}
 use Rattle.elements.specs.Sealed.{among}
 use Rattle.rules.specs.declared.table.Row.{Row}
-use Rattle.rules.specs.declared.table.Sort.{Sort}
-use Rattle.rules.specs.declared.table.Sort.the-variants.{Always, Identifier, Not, And, Or, Other}
 use Rattle.rules.specs.Reading.{Rec, count, number}
-use Rattle.rules.specs.Tables.{tagOf, kindOf, sortBy}
 
 -- bytes, and the records that are left
 pub record Rendered : Type 0 where
@@ -85,17 +82,6 @@ rAll ks q rs = rMany ks q (length rs) rs
 unfoldable pub rTimes : ℕ → Renderer → Renderer
 rTimes zero q = nothing
 rTimes (suc k) q = q next rTimes k q
-
-unfoldable pub rConditionAs : Renderer → Sort → List ℕ → Renderer
-rConditionAs q Always p rs = gives (wrap (tagOf Always) []) rs
-rConditionAs q Identifier p rs = gives (wrap (tagOf Identifier) p) rs
-rConditionAs q Not p rs = within (tagOf Not) q rs
-rConditionAs q And p rs = within (tagOf And) (rTimes (count p) q) rs
-rConditionAs q Or p rs = within (tagOf Or) (rTimes (count p) q) rs
-rConditionAs q Other p rs = gives p rs
-
-unfoldable pub rConditionOf : Renderer → ℕ → List ℕ → Renderer
-rConditionOf q k p rs = rConditionAs q (sortBy kindOf k) p rs
 
 unfoldable pub rFill : ℕ → Renderer
 rFill kind = when (kind ∷ []) (from (λ k p rs. gives (replicate (count (drop 1 p)) (getD p 0 0)) rs))

@@ -1,18 +1,16 @@
--- What is checked of a part once it is read, and the bodies of conditions.
+-- What is checked of a part once it is read, and what is counted in it.
 use Prim.Native.Nat.{ℕ, _-_, _/_, _%_}
 use mathlib.Core.List.{List, [], _∷_}
-use mathlib.Core.Bool.{Bool, true, false, _||_, _&&_, not}
+use mathlib.Core.Bool.{Bool, true, false, _||_, not}
 use lib.ListN.{length}
 use lib.Seq.{slice}
-use lib.Dec.{ltb, leb, eqb}
-use Rattle.elements.specs.declared.fault.Fault.the-variants.{BadNull, BadSize, ManyConditions, Missing, PathPair, PasswordFlags}
+use lib.Dec.{leb, eqb}
+use Rattle.elements.specs.declared.fault.Fault.the-variants.{BadSize, Missing, PathPair, PasswordFlags}
 use Rattle.elements.specs.Choice.{choose}
 use Rattle.elements.specs.Put.{le16}
-use Rattle.rules.specs.declared.table.Sort.{Sort}
-use Rattle.rules.specs.declared.table.Sort.the-variants.{Always, Identifier, Not, And, Or, Other}
-use Rattle.rules.specs.Reading.{Rec, rec, Res, took, fails, also, _then_, Reader, Body, number}
-use Rattle.rules.specs.Parts.{ended, sealed, repeat, toEnd}
-use Rattle.rules.specs.Tables.{indexRow, lengthRow, tagOf, kindOf, sortBy}
+use Rattle.rules.specs.declared.table.Sort.the-variants.{Identifier}
+use Rattle.rules.specs.Reading.{Rec, rec, Res, took, fails, Body, number}
+use Rattle.rules.specs.Tables.{indexRow, lengthRow, kindOf}
 
 -- a record of the kind is there
 abbrev pub has : ℕ → List Rec → Bool
@@ -53,19 +51,3 @@ module _ (s : List ℕ) where
   -- "04 identifier": "Identifiers are 0 to 255 bytes"
   unfoldable pub identified : Body
   identified at a e = choose (leb (e - a) 255) (λ _. took (rec (kindOf Identifier) (slice a e s) ∷ []) [] e) (λ _. fails BadSize at)
-
-  -- "05 00 always; 04 identifier; A0 not, one inside; A1 and, A2 or, each 2 to 255 inside, 2-byte count; another tag, sealed": those inside it are read by `inner`
-  unfoldable pub conditionAs : (ℕ → Reader) → Sort → ℕ → Body
-  conditionAs inner Always t at a e = took (rec (kindOf Always) [] ∷ []) [] e
-  conditionAs inner Identifier t at a e = identified at a e
-  conditionAs inner Not t at a e = also (rec (kindOf Not) [] ∷ []) [] ((inner 0 then ended s) e a)
-  conditionAs inner And t at a e = listed (kindOf And) e (repeat toEnd inner (e - a) 0 e a)
-  conditionAs inner Or t at a e = listed (kindOf Or) e (repeat toEnd inner (e - a) 0 e a)
-  conditionAs inner Other t at a e = sealed s (kindOf Other) [] t at a e
-
-  -- "value, range, then contents": the header is read, it is the nth of its list
-  unfoldable pub conditionBody : (ℕ → Reader) → ℕ → ℕ → Body
-  conditionBody inner nth t at a e =
-      choose (eqb t (tagOf Always) && ltb a e) (λ _. fails BadNull at)
-      (λ _. choose (ltb 255 nth) (λ _. fails ManyConditions at)
-      (λ _. conditionAs inner (sortBy tagOf t) t at a e))

@@ -11,12 +11,13 @@ use Rattle.rules.specs.declared.table.Sort.{Sort}
 use Rattle.rules.specs.declared.table.Sort.the-variants.{Always, Identifier, Not, And, Or, Other}
 use Rattle.rules.specs.Reading.{Rec, count}
 use Rattle.rules.specs.Tables.{ruleRows, commonRows, mark, kindOf, sortBy}
-use Rattle.rules.specs.Render.{Renderer, _next_, within, when, rRow, rRows, rKeep, rAll, rConditionAs, rConditionOf, rCondition, rRule, rCommon}
+use Rattle.rules.specs.Render.{Renderer, _next_, within, when, rRow, rRows, rKeep, rAll, rConditionAs, rCondition, rRule, rCommon}
 use Rattle.rules.specs.Book.{recordsFrom, nextIs}
 use Rattle.writer.specs.Making.{Makes, Closed}
 use Rattle.writer.proofs.MadeLaws.{made-left, within-short, within-long, within-took, when-yes, when-no}
 use Rattle.writer.proofs.ManyLaws.{Fewer, next-fewer, from-fewer, keep-fewer, times-fewer, three-first, three-second, three-third, Repeating, repeating-next}
 use Rattle.rules.specs.Layouts as layouts
+use Rattle.rules.specs.Conditions as conditions
 
 -- what stands in a rule, and the rules in their element
 abbrev Contents : Renderer
@@ -26,19 +27,19 @@ abbrev Rules : Renderer
 Rules = within 0x30 (rAll (mark ruleRows) rRule)
 
 -- ---- a rule takes a record
-as-fewer : (q : Renderer) → Fewer q → (x : Sort) (p : List ℕ) → Fewer (rConditionAs q x p)
+as-fewer : (l : ℕ) → Fewer (rCondition l) → (x : Sort) (p : List ℕ) → Fewer (rConditionAs l x p)
 unfolding rConditionAs
-as-fewer q f Always p rs = omega arith
-as-fewer q f Identifier p rs = omega arith
-as-fewer q f Not p rs = f rs
-as-fewer q f And p rs = times-fewer (count p) q f rs
-as-fewer q f Or p rs = times-fewer (count p) q f rs
-as-fewer q f Other p rs = omega arith
+as-fewer l f Always p rs = omega arith
+as-fewer l f Identifier p rs = omega arith
+as-fewer l f Not p rs = f rs
+as-fewer l f And p rs = times-fewer (count p) (λ rs. rCondition l rs) f rs
+as-fewer l f Or p rs = times-fewer (count p) (λ rs. rCondition l rs) f rs
+as-fewer l f Other p rs = omega arith
 
 condition-fewer : (l : ℕ) → Fewer (rCondition l)
-unfolding layouts.condition rConditionOf
+unfolding conditions.condition rConditionAs
 condition-fewer zero rs = omega arith
-condition-fewer (suc l) rs = from-fewer (rConditionOf (λ rs. rCondition l rs)) (λ k p. as-fewer (λ rs. rCondition l rs) (condition-fewer l) (sortBy kindOf k) p) rs
+condition-fewer (suc l) rs = from-fewer (λ k p. rConditionAs l (sortBy kindOf k) p) (λ k p. as-fewer l (condition-fewer l) (sortBy kindOf k) p) rs
 
 first-taken : (rs : List Rec) → nextIs 0x0125 rs ≡ true → length (rRows ruleRows rs .left) < length rs
 unfolding rRows rRow

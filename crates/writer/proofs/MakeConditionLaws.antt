@@ -16,12 +16,12 @@ use Rattle.rules.specs.declared.table.Sort.the-variants.{Always, Identifier, No
 use Rattle.rules.specs.Reading.{Rec, count}
 use Rattle.rules.specs.Files.{two}
 use Rattle.rules.specs.Tables.{kindOf, sortBy}
-use Rattle.rules.specs.Render.{gives, Renderer, _next_, within, from, rTimes, rConditionAs, rConditionOf, rCondition}
+use Rattle.rules.specs.Render.{gives, Renderer, _next_, within, from, rTimes, rConditionAs, rCondition}
 use Rattle.rules.specs.Book.{recordsFrom, Ends}
 use Rattle.writer.specs.Making.{Makes, Closed}
 use Rattle.rules.specs.BookLaws.{from-few}
 use Rattle.writer.proofs.MadeLaws.{makes-none, makes-as, makes-same, made-high, made-room, then-long, then-took, within-short, within-long, within-took, from-some, puts-took, puts-long}
-use Rattle.rules.specs.Layouts as layouts
+use Rattle.rules.specs.Conditions as conditions
 
 -- ---- the sort that has a kind
 module _ (k : ℕ) where
@@ -73,18 +73,18 @@ module _ (b : List ℕ) (e tag p t : ℕ) {a m c : List ℕ} {o s q : ℕ} (f : 
 abbrev Inner : ℕ → Renderer
 Inner l = λ rs. rCondition l rs
 
-by-level : (levels : ℕ) (rs : List Rec) → (levels ≡ 0 → ⊥) → rCondition levels rs ≡ from (rConditionOf (Inner (levels - 1))) rs
-unfolding layouts.condition
+by-level : (levels : ℕ) (rs : List Rec) → (levels ≡ 0 → ⊥) → rCondition levels rs ≡ from (λ k p. rConditionAs (levels - 1) (sortBy kindOf k) p) rs
+unfolding conditions.condition rConditionAs
 by-level zero rs n = absurd (n refl)
 by-level (suc l) rs n = let u : suc l - 1 ≡ l = omega arith in rw u refl
 
 none-deep : (levels : ℕ) (rs : List Rec) → levels ≡ 0 → rCondition levels rs ≡ gives [] rs
-unfolding layouts.condition
+unfolding conditions.condition
 none-deep zero rs z = refl
 none-deep (suc l) rs z = absurd (omega arith)
 
 none-left : (levels : ℕ) → rCondition levels [] ≡ gives [] []
-unfolding layouts.condition
+unfolding conditions.condition
 none-left zero = refl
 none-left (suc l) = refl
 
@@ -95,49 +95,48 @@ module _ (b : List ℕ) (levels : ℕ) {i : ℕ} where
   pub condition-none : (a : List ℕ) (o : ℕ) → length b < i + 4 → i ≤ length b → o ≤ length a → Makes b a a i o (rCondition levels (recordsFrom b i)) (Took i o)
   condition-none a o z h l = makes-as (makes-none b a i o h l) (rw (from-few b i z) (sym (none-left levels)))
 
-  pub condition-here : {a c : List ℕ} {e o k : ℕ} {y : Sort} {r : Made} → (levels ≡ 0 → ⊥) → Ends b i e → k ≡ two b (i + 2) → y ≡ sortBy kindOf k → Makes b a c e o (rConditionAs (Inner (levels - 1)) y (slice (i + 4) e b) (recordsFrom b e)) r → Makes b a c i o (rCondition levels (recordsFrom b i)) r
-  unfolding rConditionOf
-  condition-here n h w v m = makes-as (from-some (rConditionOf (Inner (levels - 1))) h (rw (v, w) at m)) (sym (by-level levels (recordsFrom b i) n))
+  pub condition-here : {a c : List ℕ} {e o k : ℕ} {y : Sort} {r : Made} → (levels ≡ 0 → ⊥) → Ends b i e → k ≡ two b (i + 2) → y ≡ sortBy kindOf k → Makes b a c e o (rConditionAs (levels - 1) y (slice (i + 4) e b) (recordsFrom b e)) r → Makes b a c i o (rCondition levels (recordsFrom b i)) r
+  condition-here n h w v m = makes-as (from-some (λ k p. rConditionAs (levels - 1) (sortBy kindOf k) p) h (rw (v, w) at m)) (sym (by-level levels (recordsFrom b i) n))
 
 -- ---- a condition of a sort
-module _ (b : List ℕ) (q : Renderer) (p i : ℕ) {y : Sort} {a c : List ℕ} {o : ℕ} {r : Made} where
-  pub as-always : y ≡ Always → Makes b a c i o (gives (wrap 5 (slice p p b)) (recordsFrom b i)) r → Makes b a c i o (rConditionAs q y (slice p i b) (recordsFrom b i)) r
+module _ (b : List ℕ) (levels p i : ℕ) {y : Sort} {a c : List ℕ} {o : ℕ} {r : Made} where
+  pub as-always : y ≡ Always → Makes b a c i o (gives (wrap 5 (slice p p b)) (recordsFrom b i)) r → Makes b a c i o (rConditionAs levels y (slice p i b) (recordsFrom b i)) r
   unfolding rConditionAs
   as-always z m = rw z (rw (slice-empty p b) at m)
 
-  pub as-identifier : y ≡ Identifier → Makes b a c i o (gives (wrap 4 (slice p i b)) (recordsFrom b i)) r → Makes b a c i o (rConditionAs q y (slice p i b) (recordsFrom b i)) r
+  pub as-identifier : y ≡ Identifier → Makes b a c i o (gives (wrap 4 (slice p i b)) (recordsFrom b i)) r → Makes b a c i o (rConditionAs levels y (slice p i b) (recordsFrom b i)) r
   unfolding rConditionAs
   as-identifier z m = rw z m
 
-  pub as-not : y ≡ Not → Makes b a c i o (rConditionAs q Not [] (recordsFrom b i)) r → Makes b a c i o (rConditionAs q y (slice p i b) (recordsFrom b i)) r
+  pub as-not : y ≡ Not → Makes b a c i o (rConditionAs levels Not [] (recordsFrom b i)) r → Makes b a c i o (rConditionAs levels y (slice p i b) (recordsFrom b i)) r
   unfolding rConditionAs
   as-not z m = rw z m
 
   module _ {k : ℕ} (e : k ≡ count (slice p i b)) where
-    pub as-and : y ≡ And → Makes b a c i o (within 0xa1 (rTimes k q) (recordsFrom b i)) r → Makes b a c i o (rConditionAs q y (slice p i b) (recordsFrom b i)) r
+    pub as-and : y ≡ And → Makes b a c i o (within 0xa1 (rTimes k (Inner levels)) (recordsFrom b i)) r → Makes b a c i o (rConditionAs levels y (slice p i b) (recordsFrom b i)) r
     unfolding rConditionAs
     as-and z m = rw z (rw e at m)
 
-    pub as-or : y ≡ Or → Makes b a c i o (within 0xa2 (rTimes k q) (recordsFrom b i)) r → Makes b a c i o (rConditionAs q y (slice p i b) (recordsFrom b i)) r
+    pub as-or : y ≡ Or → Makes b a c i o (within 0xa2 (rTimes k (Inner levels)) (recordsFrom b i)) r → Makes b a c i o (rConditionAs levels y (slice p i b) (recordsFrom b i)) r
     unfolding rConditionAs
     as-or z m = rw z (rw e at m)
 
-  pub as-other : y ≡ Other → Makes b a c i o (gives (slice p i b) (recordsFrom b i)) r → Makes b a c i o (rConditionAs q y (slice p i b) (recordsFrom b i)) r
+  pub as-other : y ≡ Other → Makes b a c i o (gives (slice p i b) (recordsFrom b i)) r → Makes b a c i o (rConditionAs levels y (slice p i b) (recordsFrom b i)) r
   unfolding rConditionAs
   as-other z m = rw z m
 
 -- ---- "A0 not, one inside"
 module _ (b : List ℕ) (levels i : ℕ) {a : List ℕ} {o : ℕ} where
-  pub not-short : length a < o + 2 → Makes b a a i o (rConditionAs (Inner levels) Not [] (recordsFrom b i)) Long
+  pub not-short : length a < o + 2 → Makes b a a i o (rConditionAs levels Not [] (recordsFrom b i)) Long
   unfolding rConditionAs
   not-short h = within-short 0xa0 (Inner levels) (recordsFrom b i) h
 
   module _ {c : List ℕ} {r : Made} (m : Makes b a c i (o + 2) (rCondition levels (recordsFrom b i)) r) where
-    pub not-long : r ≡ Long → Makes b a c i o (rConditionAs (Inner levels) Not [] (recordsFrom b i)) Long
+    pub not-long : r ≡ Long → Makes b a c i o (rConditionAs levels Not [] (recordsFrom b i)) Long
     unfolding rConditionAs
     not-long z = within-long 0xa0 (Inner levels) (recordsFrom b i) m z
 
-    pub not-took : {d : List ℕ} {s : Made} {n q : ℕ} → r ≡ Took n q → Closed c d o 0xa0 n q s → Makes b a d i o (rConditionAs (Inner levels) Not [] (recordsFrom b i)) s
+    pub not-took : {d : List ℕ} {s : Made} {n q : ℕ} → r ≡ Took n q → Closed c d o 0xa0 n q s → Makes b a d i o (rConditionAs levels Not [] (recordsFrom b i)) s
     unfolding rConditionAs
     not-took z k = within-took 0xa0 (Inner levels) (recordsFrom b i) m z k
 

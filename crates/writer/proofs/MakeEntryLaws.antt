@@ -56,7 +56,7 @@ module _ {b a c : List ℕ} {i e o : ℕ} (h : Ends b i e) {x : ℕ} (t : x ≡ 
   inside-path {p} z f m = from-some _ h (makes-as m (rw (sym t ∙ z, f .is b (h .high)) refl))
 
   pub inside-objects : (x ≡ 0 → ⊥) → Makes b a c e o (within 0xa0 rObjects (recordsFrom b e)) r → Makes b a c i o (rInside (recordsFrom b i)) r
-  unfolding rInside
+  unfolding rInside rObjects
   inside-objects z m = from-some _ h (makes-as m (rw (← t, ne-eqb x 0 z) refl))
 
 -- an entry with a tag of ours

@@ -10,7 +10,7 @@ use Rattle.rules.specs.declared.table.ObjectType.{ObjectType}
 use Rattle.rules.specs.declared.table.ObjectType.the-variants.{PrivateKey, Certificate, Password, Sealed}
 use Rattle.rules.specs.Reading.{Rec}
 use Rattle.rules.specs.Tables.{pathRows, privateRows, passwordRows, mark}
-use Rattle.rules.specs.Render.{Renderer, _next_, within, when, either, plain, rRows, rKeep, rPath, rPrivate, rCertificate, rPassword, rType}
+use Rattle.rules.specs.Render.{Renderer, within, when, either, plain, rRows, rKeep, rPath, rPrivate, rCertificate, rPassword, rType}
 use Rattle.rules.specs.Book.{recordsFrom, nextIs}
 use Rattle.writer.specs.Making.{Makes}
 use Rattle.writer.proofs.MadeLaws.{makes-as, then-long, then-took}

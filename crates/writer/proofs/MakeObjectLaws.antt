@@ -18,6 +18,7 @@ use Rattle.writer.specs.Making.{Makes, Onward}
 use Rattle.writer.proofs.MadeLaws.{then-long, then-took, from-some, made-steps, onward-one}
 use Rattle.writer.proofs.ManyLaws.{three-first, three-second, three-third, Repeating, repeating-all, repeating-long}
 use Rattle.rules.specs.Layouts as layouts
+use Rattle.rules.specs.Entries as entries
 
 -- the components of a sequence and its rest
 module _ (s : Sequence) (kind : ℕ) {b a c : List ℕ} {i o : ℕ} {r : Made} (m : Makes b a c i o (rRows (rowsOf s) (recordsFrom b i)) r) where
@@ -79,7 +80,7 @@ module _ (entry tag : ℕ) {b a c : List ℕ} {i o : ℕ} {r : Made} (m : Makes 
 -- an object
 module _ {b : List ℕ} {i e : ℕ} (h : Ends b i e) where
   pub object-made : {a c : List ℕ} {o x y : ℕ} {r : Made} → x ≡ getD (slice (i + 4) e b) 0 0 → y ≡ getD (slice (i + 4) e b) 1 0 → Makes b a c e o (within y (rContents x y) (recordsFrom b e)) r → Makes b a c i o (rObject (recordsFrom b i)) r
-  unfolding rObject
+  unfolding rObject entries.object
   object-made p q m = from-some (λ k p. within (getD p 1 0) (rContents (getD p 0 0) (getD p 1 0))) h (rw (p, q) at m)
 
   pub object-onward : {a c : List ℕ} {o : ℕ} {w : Rendered} {r : Made} → Makes b a c e o w r → Onward b i r
@@ -88,9 +89,9 @@ module _ {b : List ℕ} {i e : ℕ} (h : Ends b i e) where
 -- objects
 module _ {b a c : List ℕ} {i o j p : ℕ} (m : Repeating b 0x0120 rObject a c i o j p) {t : Bool} (e : t ≡ nextIs 0x0120 (recordsFrom b j)) where
   pub objects-done : t ≡ false → Makes b a c i o (rObjects (recordsFrom b i)) (Took j p)
-  unfolding rObjects
+  unfolding rObject rObjects entries.object
   objects-done z = repeating-all m e z
 
   pub objects-long : {d : List ℕ} {r : Made} → t ≡ true → Makes b c d j p (rObject (recordsFrom b j)) r → r ≡ Long → Makes b a d i o (rObjects (recordsFrom b i)) Long
-  unfolding rObjects
+  unfolding rObject rObjects entries.object
   objects-long z x q = repeating-long m e z x q

@@ -5,7 +5,7 @@ use mathlib.Core.Bool.{Bool, true, false, _&&_}
 use mathlib.Core.List.{List, [], _∷_, _++_, append-assoc, append-nil}
 use native.Mathlib.Omega.{arith}
 use lib.ListN.{length, getD, drop, length-append}
-use lib.Seq.{slice, length-slice}
+use lib.Seq.{slice, length-slice, take-at}
 use lib.Dec.{leb, eqb}
 use borrow.Author.Tests.{le-leb, lt-leb, eq-eqb, ne-eqb, leb-true}
 use Rattle.elements.specs.Choice.{choose}
@@ -18,7 +18,6 @@ use Rattle.rules.specs.Reading.{Rec, rec}
 use Rattle.rules.specs.Files.{Name, two, namesOf}
 use Rattle.rules.specs.Book.{records, recordsFrom, Ends}
 use Rattle.rules.specs.Render.{Rendered, gives, rCia, rOd, rDirectory, rDirectories, framing, used, render}
-use Rattle.rules.specs.DumpLaws.{used-is}
 use Rattle.writer.specs.Making.{Walk, there, onto, Steps, Makes, makes, breaks, Fronted, Fitted, fits, beyond, names, Named, FileMade, FilesMade, TwoMade}
 use Rattle.writer.proofs.MakeEntryLaws.{tail-some}
 use Rattle.writer.proofs.MadeLaws.{closed-up, moved-same, makes-same, made-put, made-left, made-room, made-steps, made-long, made-high}
@@ -233,6 +232,9 @@ module _ {b a c : List ℕ} {j end i o k n p : ℕ} (m : Filing b a c j end i o 
             high = made-high (f .is) y;
             whole = λ rs v. named rs v ∙ rw x (sym (append-assoc (m .made) (framing 3 (fileBytes b k e n)) (rDirectories (namesOf (w .rest)) (recordsFrom b n′))));
           }
+
+used-is : (cs ds : List Rec) → used (cs ++ ds) ds ≡ cs
+used-is cs ds = take-at cs ds (length (cs ++ ds) - length ds) (omega (arith, length-append cs ds))
 
 used-of : (rs taken left l : List Rec) → l ≡ left → rs ≡ taken ++ left → used rs l ≡ taken
 used-of rs taken left l e q = rw (q, e) (used-is taken left)

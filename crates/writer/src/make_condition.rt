@@ -91,7 +91,7 @@ fn make_condition_as(
     o: usize,
 ) -> Made
     requires { ⌜ (p ≤ i) × Making (now b) i (now out) o ⌝ }
-    ensures { λ r. ⌜ Makes (now (b .entry)) (now (out .entry)) (now (out .exit)) i o (rConditionAs (λ rs. rCondition levels rs) x (slice p i (now (b .entry))) (recordsFrom (now (b .entry)) i)) r ⌝ }
+    ensures { λ r. ⌜ Makes (now (b .entry)) (now (out .entry)) (now (out .exit)) i o (rConditionAs levels x (slice p i (now (b .entry))) (recordsFrom (now (b .entry)) i)) r ⌝ }
 {
     match x {
         Sort::Always => make_element(b, i, 0x05, p, p, out, o),
@@ -108,7 +108,7 @@ fn make_condition_as(
 // "A0 not, one inside".
 fn make_not(b: &[u8], i: usize, levels: usize, out: &mut [u8], o: usize) -> Made
     requires { ⌜ Making (now b) i (now out) o ⌝ }
-    ensures { λ r. ⌜ Makes (now (b .entry)) (now (out .entry)) (now (out .exit)) i o (rConditionAs (λ rs. rCondition levels rs) Not [] (recordsFrom (now (b .entry)) i)) r ⌝ }
+    ensures { λ r. ⌜ Makes (now (b .entry)) (now (out .entry)) (now (out .exit)) i o (rConditionAs levels Not [] (recordsFrom (now (b .entry)) i)) r ⌝ }
 {
     if out.len() < o + 2 {
         return Made::Long;

@@ -1,20 +1,40 @@
 -- Demand 2, sentence by sentence, as theorems about the definitions.
 use Prim.Native.Nat.{ℕ, _*_, _≤_}
-use mathlib.Core.Path.{_≡_, refl}
+use mathlib.Core.Path.{_≡_, refl, sym}
+use mathlib.Core.Logic.{_↔_}
 use mathlib.Core.List.{List}
 use native.Mathlib.Omega.{arith}
 use lib.ListN.{length}
 use Rattle.elements.specs.declared.fault.Fault.{Fault}
 use Rattle.elements.specs.Lists.{Bytes}
-use Rattle.rules.specs.Files.{refused, readDump}
-use Rattle.rules.specs.Book.{records}
+use Rattle.rules.specs.Reading.{Rec}
+use Rattle.rules.specs.Files.{accepted, refused, readDump}
+use Rattle.rules.specs.Book.{encode, records}
 use Rattle.rules.specs.Render.{render}
 use Rattle.rules.specs.Write.{Written, written, noBook, writeDump}
 use Rattle.rules.specs.Meaning.{Has, AcceptedBook}
-use Rattle.rules.specs.WriteLaws as laws
-use Rattle.rules.specs.DumpLaws as dumps
+use Rattle.cards.specs.Card.{Card, dumpOf, bookOf, Meets}
+use Rattle.cards.specs.CardRender as rendered
+use Rattle.cards.specs.WriteLaws as laws
+use Rattle.cards.specs.DumpLaws as dumps
 
--- "its book is the one they define": a dump has one book
+-- "A dump is accepted exactly when it meets the DER rules, the 7816-15 layouts and the limits of document 01, and its book is the one they define": it is the dump of a card that meets them, and its book is the card's
+pub accepted-cards : (d : List ℕ) (rs : List Rec) → Bytes d → (readDump d ≡ accepted rs) ↔ ((c : Card) × Meets c × (dumpOf c ≡ d) × (bookOf c ≡ rs))
+accepted-cards d rs b = dumps.accepted-cards d rs b
+
+-- a book is accepted if and only if it is the book of such a card
+pub accepted-books : (b : List ℕ) → AcceptedBook b ↔ ((c : Card) × Meets c × Bytes (dumpOf c) × (encode (bookOf c) ≡ b))
+accepted-books b = dumps.accepted-books b
+
+-- a dump has one card
+pub one-card : (c e : Card) → Meets c → Meets e → Bytes (dumpOf c) → dumpOf c ≡ dumpOf e → c ≡ e
+one-card c e m n b q =
+    let x = accepted-cards (dumpOf c) (bookOf c) b .1 (c, m, refl, refl) in
+    let y = accepted-cards (dumpOf c) (bookOf e) b .1 (e, n, sym q, refl) in
+    let z : bookOf c ≡ bookOf e = cc in
+    rendered.one-card c e m n z
+
+-- a dump has one book
 pub one-book : {d b c : List ℕ} → Has d b → Has d c → b ≡ c
 one-book h g = let e : h .records ≡ g .records = cc (h .reads, g .reads) in cc (h .book, g .book, e)
 
@@ -52,7 +72,7 @@ pub book-bound : {d b : List ℕ} → Has d b → length b ≤ 4 * length d
 book-bound {d} h = rw (← h .book) (laws.book-bound d (h .records) (h .bytes) (h .reads))
 
 pub book-most : {d b : List ℕ} → Has d b → length b ≤ 131072
-book-most {d} h = omega (arith, book-bound h, dumps.laid-out d (h .records) (h .bytes) (h .reads) .1)
+book-most {d} h = omega (arith, book-bound h, laws.laid-out d (h .records) (h .bytes) (h .reads) .1)
 
 -- "in every refusal but 14 it lies from 0 to the input's length"
 pub place-in-dump : (d : List ℕ) {f : Fault} {p : ℕ} → Bytes d → readDump d ≡ refused f p → p ≤ length d

@@ -1,29 +1,38 @@
--- What demand 2 asks: both round trips, refused exactly when no dump has the book, no two dumps with one book.
-use Prim.Native.Nat.{ℕ, zero, suc, _+_, _-_, _*_, _≤_, _<_}
+-- What demand 2 asks, from what a card is: both round trips, refused exactly when no dump has the book, no two dumps with one book.
+use Prim.Native.Nat.{ℕ, zero, suc, _+_, _-_, _*_, _≤_}
 use mathlib.Core.List.{List, [], _∷_}
 use mathlib.Core.Bool.{Bool, true, false}
-use mathlib.Core.Path.{_≡_, refl}
+use mathlib.Core.Path.{_≡_, refl, sym, ap, _∙_}
 use native.Mathlib.Omega.{arith}
-use lib.ListN.{length, getD, length-append}
+use lib.ListN.{length, length-append}
 use lib.Seq.{take-at, drop-at}
 use lib.Dec.{ltb→lt}
-use borrow.Author.Tests.{eq-eqb}
 use Rattle.elements.specs.Choice.{choose}
-use Rattle.rules.specs.Reading.{Rec}
-use Rattle.rules.specs.Files.{Answer, accepted, refused, equal, readDump}
-use Rattle.rules.specs.Book.{encode, recordsOf, records}
-use Rattle.rules.specs.Render.{render}
-use Rattle.rules.specs.Write.{written, noBook, confirmed, writeDump}
-use Rattle.elements.specs.Record.{recordBytes}
-use Rattle.rules.specs.Laws.{Laid, size}
-use Rattle.rules.specs.ValueLaws.{two-bytes}
 use Rattle.elements.specs.Lists.{Bytes}
+use Rattle.elements.specs.Record.{recordBytes}
+use Rattle.rules.specs.Reading.{Rec}
+use Rattle.rules.specs.Files.{Answer, accepted, refused, equal, readDump}
+use Rattle.rules.specs.Book.{encode, recordsOf, records}
+use Rattle.rules.specs.Render.{render}
+use Rattle.rules.specs.Write.{written, noBook, confirmed, writeDump}
+use Rattle.rules.specs.LookLaws.{Laid, size}
+use Rattle.rules.specs.ValueLaws.{two-bytes}
+use Rattle.rules.specs.EqualLaws.{equal-is, equal-self}
+use Rattle.rules.specs.BookLaws.{book-size}
 use Rattle.rules.specs.ByteLaws.{candidate-bytes}
-use Rattle.rules.specs.DumpLaws.{round, bound, laid-out, equal-is}
+use Rattle.cards.specs.CardRender.{card-renders, card-bound, card-laid}
+use Rattle.cards.specs.DumpLaws.{accepted-card}
 
-pub equal-self : (l : List ℕ) → equal l l ≡ true
-equal-self [] = refl
-equal-self (x ∷ l) = rw (eq-eqb x x refl) (equal-self l)
+-- rendering the records of an accepted dump gives the dump, since they are a card's
+pub round : (d : List ℕ) (rs : List Rec) → Bytes d → readDump d ≡ accepted rs → render rs ≡ d
+round d rs b e = let c = accepted-card d rs b e in ap render (sym (c .book)) ∙ card-renders (c .it) (c .meets) ∙ c .dump
+
+-- its book has at most four bytes for each of its own, and its records fit a book
+pub bound : (d : List ℕ) (rs : List Rec) → Bytes d → readDump d ≡ accepted rs → size rs ≤ 4 * length d
+bound d rs b e = let c = accepted-card d rs b e in rw (c .book, c .dump) at (card-bound (c .it) (c .meets))
+
+pub laid-out : (d : List ℕ) (rs : List Rec) → Bytes d → readDump d ≡ accepted rs → Laid (length d) rs × (length d ≤ 32768)
+laid-out d rs b e = let c = accepted-card d rs b e in (rw (c .book, c .dump) at (card-laid (c .it) (c .meets)), rw (c .dump) at (c .meets .dump-size))
 
 records-encode : (n : ℕ) (rs : List Rec) → n ≤ 32768 → Laid n rs → (g : ℕ) → length rs ≤ g → recordsOf g (encode rs) ≡ rs
 unfolding recordsOf encode recordBytes
@@ -42,12 +51,12 @@ longer [] = omega arith
 longer (r ∷ rs) = omega (arith, length-append (r .pay) (encode rs), longer rs)
 
 -- the records of an accepted dump's book
-pub records-of : (d : List ℕ) (rs : List Rec) → ((i : ℕ) → getD d i 0 < 256) → readDump d ≡ accepted rs → records (encode rs) ≡ rs
+pub records-of : (d : List ℕ) (rs : List Rec) → Bytes d → readDump d ≡ accepted rs → records (encode rs) ≡ rs
 unfolding records
 records-of d rs bytes e = let w = laid-out d rs bytes e in records-encode (length d) rs (w .1) (w .0) (length (encode rs)) (longer rs)
 
 -- reading, then writing
-pub read-write : (d : List ℕ) (rs : List Rec) → ((i : ℕ) → getD d i 0 < 256) → readDump d ≡ accepted rs → writeDump (encode rs) ≡ written d
+pub read-write : (d : List ℕ) (rs : List Rec) → Bytes d → readDump d ≡ accepted rs → writeDump (encode rs) ≡ written d
 unfolding writeDump
 read-write d rs bytes e = rw (records-of d rs bytes e, round d rs bytes e, e, equal-self (encode rs)) refl
 
@@ -65,13 +74,8 @@ write-read b d e = go (readDump (render (records b))) refl e
     go (refused f p) r e = absurd (let z : _≡_ {A = ℕ} 0 1 = cc in omega arith)
     go (accepted rs) r e = by-equal rs (equal (encode rs) b) refl r e
 
--- the book's length, and that four bytes of it for each of the dump's are enough
-pub book-size : (rs : List Rec) → length (encode rs) ≡ size rs
-unfolding encode recordBytes
-book-size [] = refl
-book-size (r ∷ rs) = omega (arith, length-append (r .pay) (encode rs), book-size rs)
-
-pub book-bound : (d : List ℕ) (rs : List Rec) → ((i : ℕ) → getD d i 0 < 256) → readDump d ≡ accepted rs → length (encode rs) ≤ 4 * length d
+-- four bytes of book for each of the dump's are enough
+pub book-bound : (d : List ℕ) (rs : List Rec) → Bytes d → readDump d ≡ accepted rs → length (encode rs) ≤ 4 * length d
 book-bound d rs bytes e = rw (book-size rs) (bound d rs bytes e)
 
 -- a book is written as its candidate
