@@ -3,9 +3,12 @@
  * Each function answers 0 for accepted, or the number of a refusal; then the number pointed to is the refusal's place,
  * and no other byte or number that the caller lent has changed. Nothing is asked of the caller but C's own rules: each
  * pointer is to as many bytes (or numbers) as the length beside it says, and what is written to overlaps nothing else.
- * No function keeps anything, allocates anything or calls anything; the stack that a call takes is below 256 KiB.
  *
- * Link with libadarbukoi.a, which `rt staticlib adarbukoi` writes to target/staticlib/.
+ * STACK: a call takes up to 192 KiB of the caller's stack. A thread of 128 KiB is too small; give it 256 KiB.
+ * THREADS: no function keeps or shares anything, so any number of calls may run at once, each on memory of its own.
+ * No function allocates; memcpy and memset are the only functions of the C library that the code calls.
+ *
+ * Link with libadarbukoi.a, which `rt staticlib adarbukoi` writes to target/staticlib/; README.md says how to install both.
  */
 #ifndef ADARBUKOI_H
 #define ADARBUKOI_H
@@ -16,6 +19,15 @@
 #ifdef __cplusplus
 extern "C" {
 #endif
+
+#define ADARBUKOI_VERSION_MAJOR 0
+#define ADARBUKOI_VERSION_MINOR 1
+#define ADARBUKOI_VERSION "0.1"
+
+/* The most bytes that an accepted dump has, and its book; and the most objects. A buffer of BOOK_MOST holds every book. */
+#define ADARBUKOI_DUMP_MOST 32768
+#define ADARBUKOI_BOOK_MOST 131072
+#define ADARBUKOI_OBJECTS_MOST 128
 
 /* Refusals. The place is a dump offset, but for ROOM (the size needed, in bytes, or for the list in numbers) and for
  * SIZE, BOOK and NONE, whose place is 0. */
@@ -38,6 +50,64 @@ enum {
     ADARBUKOI_NONE = 16     /* the object or field is not there */
 };
 
+/* Links: the first number of a row of the list. */
+enum {
+    ADARBUKOI_AUTH = 1,      /* an object's authId, and the authentication object that bears it */
+    ADARBUKOI_CONDITION = 2, /* an identifier in an access condition, and the same */
+    ADARBUKOI_CERT = 3       /* a private key's iD, and each certificate that bears it */
+};
+
+/* Kinds of an object's fields. A number has 4 bytes, its low byte first; in flags named bit i counts 2^i. */
+enum {
+    ADARBUKOI_LABEL = 0x0121,                /* text */
+    ADARBUKOI_FLAGS = 0x0122,                /* number: 0 private, 1 modifiable, 2 internal */
+    ADARBUKOI_AUTH_ID = 0x0123,              /* bytes: the identifier that protects the object */
+    ADARBUKOI_USER_CONSENT = 0x0124,         /* number */
+    ADARBUKOI_ACCESS_MODE = 0x0125,          /* number: of a rule; its condition follows */
+    ADARBUKOI_ALWAYS = 0x0126,               /* nothing */
+    ADARBUKOI_IDENTIFIER = 0x0127,           /* bytes */
+    ADARBUKOI_OTHER_CONDITION = 0x0128,      /* the element */
+    ADARBUKOI_NOT = 0x0129,                  /* nothing; one condition follows */
+    ADARBUKOI_AND = 0x012A,                  /* 2-byte count; so many conditions follow */
+    ADARBUKOI_OR = 0x012B,                   /* the same */
+    ADARBUKOI_RULE_REST = 0x012C,            /* elements */
+    ADARBUKOI_COMMON_REST = 0x012F,          /* elements */
+    ADARBUKOI_KEY_ID = 0x0130,               /* bytes */
+    ADARBUKOI_KEY_USAGE = 0x0131,            /* number: 0 encipher, 1 decipher, 2 sign, 3 signRecover, 4 keyEncipher, 5 keyDecipher,
+                                                6 verify, 7 verifyRecover, 8 derive, 9 nonRepudiation */
+    ADARBUKOI_KEY_NATIVE = 0x0132,           /* one byte, 00; absent: native */
+    ADARBUKOI_KEY_ACCESS_FLAGS = 0x0133,     /* number: 0 sensitive, 1 extractable, 2 alwaysSensitive, 3 neverExtractable, 4 cardGenerated */
+    ADARBUKOI_KEY_REFERENCE = 0x0134,        /* number */
+    ADARBUKOI_KEY_START_DATE = 0x0135,       /* YYYYMMDDhhmmssZ */
+    ADARBUKOI_KEY_END_DATE = 0x0136,         /* the same */
+    ADARBUKOI_KEY_REST = 0x013F,             /* elements */
+    ADARBUKOI_CERTIFICATE_ID = 0x0140,       /* bytes */
+    ADARBUKOI_CERTIFICATE_AUTHORITY = 0x0141, /* one byte, 01; absent: none */
+    ADARBUKOI_CERTIFICATE_REST = 0x014F,     /* elements */
+    ADARBUKOI_OWN_AUTH_ID = 0x0150,          /* bytes: what an authentication object bears */
+    ADARBUKOI_AUTH_REFERENCE = 0x0151,       /* number */
+    ADARBUKOI_SE_IDENTIFIER = 0x0152,        /* number */
+    ADARBUKOI_AUTHENTICATION_REST = 0x015F,  /* elements */
+    ADARBUKOI_CONTAINER = 0x0160,            /* contents of a data container's class, also where empty */
+    ADARBUKOI_SUBCLASS = 0x0170,             /* the element */
+    ADARBUKOI_PATH = 0x0180,                 /* bytes */
+    ADARBUKOI_PATH_INDEX = 0x0181,           /* number */
+    ADARBUKOI_PATH_LENGTH = 0x0182,          /* number */
+    ADARBUKOI_MODULUS_LENGTH = 0x0183,       /* number */
+    ADARBUKOI_CERTIFICATE_VALUE = 0x0184,    /* the element, where it is no path */
+    ADARBUKOI_TYPE_REST = 0x018F,            /* elements */
+    ADARBUKOI_PWD_FLAGS = 0x0190,            /* number: docs/FORMAT.md has its names */
+    ADARBUKOI_PWD_TYPE = 0x0191,             /* number: 0 bcd, 1 ascii-numeric, 2 utf8, 3 half-nibble-bcd, 4 iso9564-1 */
+    ADARBUKOI_PWD_MIN_LENGTH = 0x0192,       /* number */
+    ADARBUKOI_PWD_STORED_LENGTH = 0x0193,    /* number */
+    ADARBUKOI_PWD_MAX_LENGTH = 0x0194,       /* number */
+    ADARBUKOI_PWD_REFERENCE = 0x0195,        /* number; absent: 0 */
+    ADARBUKOI_PWD_PAD_CHAR = 0x0196,         /* one byte */
+    ADARBUKOI_PWD_LAST_CHANGE = 0x0197,      /* YYYYMMDDhhmmssZ */
+    ADARBUKOI_PWD_REST = 0x019F,             /* elements */
+    ADARBUKOI_OTHER_TYPE = 0x01A0            /* the element */
+};
+
 /* The answering object of a link that nothing answers. */
 #define ADARBUKOI_UNANSWERED UINT32_C(4294967295)
 
@@ -47,11 +117,11 @@ uint32_t adarbukoi_read(const uint8_t *dump, size_t dump_len, uint8_t *book, siz
 /* A book into the one dump that has it. Accepted: *length_or_place is the dump's length. Refuses BOOK, then ROOM. */
 uint32_t adarbukoi_write(const uint8_t *book, size_t book_len, uint8_t *dump, size_t dump_room, uint64_t *length_or_place);
 
-/* The links of a book, four numbers a row: link (1 auth, 2 condition, 3 cert), object, book offset of the stating record,
+/* The links of a book, four numbers a row: link (ADARBUKOI_AUTH ..), object, book offset of the stating record,
  * answering object or ADARBUKOI_UNANSWERED. Accepted: *length_or_place is how many numbers were written. Refuses BOOK, then ROOM. */
 uint32_t adarbukoi_list(const uint8_t *book, size_t book_len, uint32_t *rows, size_t rows_room, uint64_t *length_or_place);
 
-/* Where an object's first record of a kind (0121 to 01FF, hex) is. Accepted: *offset_or_place is its payload's book offset and
+/* Where an object's first record of a kind (ADARBUKOI_LABEL ..) is. Accepted: *offset_or_place is its payload's book offset and
  * *length its length; on a refusal *length is what it was. Refuses BOOK, then NONE. */
 uint32_t adarbukoi_field(const uint8_t *book, size_t book_len, uint32_t object, uint32_t kind, uint64_t *offset_or_place, uint64_t *length);
 

@@ -1,9 +1,10 @@
 /* A card's links as a Graphviz graph: objects by number and class with their labels, who guards whom, missing ones in red.
- * A dump on standard input; the services of ../include/adarbukoi.h do the work, and this prints. */
+ * A dump on standard input; the services of ../include/adarbukoi.h do the work, and this prints. A refused card gives a line on
+ * standard error, and the status 2. */
 #include "../include/adarbukoi.h"
 #include <stdio.h>
 
-static uint8_t dump[32769], book[131072];
+static uint8_t dump[ADARBUKOI_DUMP_MOST + 1], book[ADARBUKOI_BOOK_MOST];
 static uint32_t rows[1 << 20];
 static uint64_t book_len;
 
@@ -19,11 +20,11 @@ static int has(uint32_t i, uint32_t kind) {
 
 /* an object's class by what it bears: a key its iD, a certificate its iD, a container its contents, others a type; no class, no object */
 static const char *class_of(uint32_t i) {
-    if (has(i, 0x0130)) return "key";
-    if (has(i, 0x0140)) return "certificate";
-    if (has(i, 0x0160)) return "data container";
-    if (has(i, 0x0190)) return "password";
-    if (has(i, 0x01A0)) return "authentication object";
+    if (has(i, ADARBUKOI_KEY_ID)) return "key";
+    if (has(i, ADARBUKOI_CERTIFICATE_ID)) return "certificate";
+    if (has(i, ADARBUKOI_CONTAINER)) return "data container";
+    if (has(i, ADARBUKOI_PWD_FLAGS)) return "password";
+    if (has(i, ADARBUKOI_OTHER_TYPE)) return "authentication object";
     return 0;
 }
 
@@ -38,7 +39,7 @@ static void put_text(const uint8_t *s, uint64_t n) {
 static void put_object(uint32_t i, const char *class) {
     uint64_t at, length;
     printf("  o%u [label=\"%u %s", i, i, class);
-    if (field(i, 0x0121, &at, &length)) {
+    if (field(i, ADARBUKOI_LABEL, &at, &length)) {
         printf("\\n");
         put_text(book + at, length);
     }
@@ -63,15 +64,20 @@ static void put_link(uint32_t n, const uint32_t *row) {
     } else printf("  o%u -> o%u [label=\"%s\"];\n", row[3], row[1], word);
 }
 
+static int refused(uint32_t no, uint64_t place) {
+    fprintf(stderr, "refused %u %llu\n", no, (unsigned long long)place);
+    return 2;
+}
+
 int main(void) {
     uint64_t told;
     size_t n = fread(dump, 1, sizeof dump, stdin);
     uint32_t no = adarbukoi_read(dump, n, book, sizeof book, &book_len);
-    if (no) { printf("refused %u %llu\n", no, (unsigned long long)book_len); return 1; }
+    if (no) return refused(no, book_len);
     no = adarbukoi_list(book, book_len, rows, sizeof rows / sizeof *rows, &told);
-    if (no) { printf("refused %u %llu\n", no, (unsigned long long)told); return 1; }
+    if (no) return refused(no, told);
     printf("digraph card {\n  rankdir=LR;\n  node [shape=box];\n");
-    for (uint32_t i = 0; i < 128; i++) {
+    for (uint32_t i = 0; i < ADARBUKOI_OBJECTS_MOST; i++) {
         const char *class = class_of(i);
         if (class) put_object(i, class);
     }
