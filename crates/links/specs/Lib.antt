@@ -2,9 +2,11 @@ pub mod Links
 pub mod AnswerLaws
 pub mod RisingLaws
 pub mod WholeLaws
-pub mod Demand3
 pub mod Finding
 pub mod FindingLaws
 pub mod Chains
 pub mod Serving
+pub mod Told
+pub mod Demand3
 pub mod Agreement
+pub mod Refusals
