@@ -7,21 +7,21 @@ use lib.ListN.{length, getD}
 use Rattle.elements.specs.declared.fault.Fault.{Fault}
 use Rattle.elements.specs.Put.{Put}
 use Rattle.elements.specs.PutLaws.{put-none, put-put, put-then}
-use Rattle.reader.specs.declared.part.Many.{Many}
-use Rattle.reader.specs.declared.part.Many.the-variants as many
+use Rattle.objects.specs.declared.part.Many.{Many}
+use Rattle.objects.specs.declared.part.Many.the-variants as many
 use Rattle.reader.specs.declared.frame.Framed.the-variants as file
 use Rattle.reader.specs.declared.frame.Framed.{Framed}
 use Rattle.rules.specs.Reading.{Rec, Res, took, fails, also}
 use Rattle.rules.specs.Parts.{counted}
 use Rattle.rules.specs.Files.{Name, File, framed, files, frames, namedFrame, namesOf, two, directory, directories}
 use Rattle.rules.specs.Book.{encode}
-use Rattle.reader.specs.Did.{DidObjects, fellObjects}
+use Rattle.reader.specs.Filing.{DidObjects, fellObjects}
 use Rattle.reader.specs.Scan.{Lies, Holds, NextName, last, found, NameTold}
 use Rattle.reader.specs.Frame.{framedAs, Path}
 use Rattle.reader.specs.Twelve.{Sound}
 use Rattle.reader.specs.Directories.{didFiles, fellFiles, FilesTold}
-use Rattle.reader.proofs.DidLaws.{encode-append}
-use Rattle.reader.proofs.ComponentsLaws.{also-none, also-also}
+use Rattle.objects.specs.DidLaws.{encode-append}
+use Rattle.objects.specs.ComponentsLaws.{also-none, also-also}
 use Rattle.reader.proofs.EntryLaws.{objects-open, objects-small, objects-high, objects-few, objects-same, objects-kept}
 use Rattle.reader.proofs.LiesLaws.{lie-same, put-lies}
 use Rattle.reader.proofs.FrameLaws.{chain-more, chain-end, is-framed}

@@ -22,12 +22,12 @@ use Rattle.elements.specs.HeaderLaws.{header-in}
 use Rattle.elements.specs.Put.{Put}
 use Rattle.elements.specs.PutLaws.{put-none, put-put, put-then, put-length}
 use Rattle.elements.specs.Record.{recordBytes}
-use Rattle.reader.specs.declared.part.Part.{Part}
-use Rattle.reader.specs.declared.part.Part.the-variants.{Took, Fails}
-use Rattle.reader.specs.declared.part.Many.{Many}
-use Rattle.reader.specs.declared.part.Many.the-variants as many
-use Rattle.reader.specs.declared.part.Entries.{Entries}
-use Rattle.reader.specs.declared.part.Entries.the-variants as list
+use Rattle.objects.specs.declared.part.Part.{Part}
+use Rattle.objects.specs.declared.part.Part.the-variants.{Took, Fails}
+use Rattle.objects.specs.declared.part.Many.{Many}
+use Rattle.objects.specs.declared.part.Many.the-variants as many
+use Rattle.reader.specs.declared.answer.Entries.{Entries}
+use Rattle.reader.specs.declared.answer.Entries.the-variants as list
 use Rattle.reader.specs.declared.scan.Key.the-variants.{Path}
 use Rattle.rules.specs.declared.table.Need.the-variants.{Required}
 use Rattle.rules.specs.Reading.{Rec, rec, Res, took, fails, also, andThen, _then_, Reader, Body}
@@ -37,10 +37,11 @@ use Rattle.rules.specs.Files.{toFill, filled, fill, objects, namedPath, entryIn
 use Rattle.rules.specs.Book.{encode}
 use Rattle.rules.specs.LookLaws.{Laid, laid-append}
 use Rattle.rules.specs.BookLaws.{book-size}
-use Rattle.reader.specs.Did.{Did, did, fell, Forward, Stays, DidObjects, didObjects, fellObjects, objectsOf, DidEntries, ForwardMany, moreOf}
+use Rattle.objects.specs.Did.{Did, did, fell, Forward, Stays}
+use Rattle.reader.specs.Filing.{DidObjects, didObjects, fellObjects, objectsOf, DidEntries, ForwardMany, moreOf}
 use Rattle.reader.specs.Scan.{Lies, Holds, Whole, AgainTold, keyAt}
-use Rattle.reader.proofs.DidLaws.{encode-append, encode-one, by-header, element-fails, did-one, did-high, did-small, did-same}
-use Rattle.reader.proofs.RepeatLaws.{Going, going-none, going-step, going-stop, going-break}
+use Rattle.objects.specs.DidLaws.{encode-append, encode-one, by-header, element-fails, did-one, did-high, did-small, did-same}
+use Rattle.objects.specs.RepeatLaws.{Going, going-none, going-step, going-stop, going-break}
 use Rattle.reader.proofs.LiesLaws.{First, first, first-whole, put-lies, put-lie}
 use Rattle.reader.proofs.ScanLaws.{names-append}
 use Rattle.reader.proofs.NameLaws.{silent-took, fill-silent, Entry, entry-told, Naming, naming-start, naming-next, naming-bears, names-bear}

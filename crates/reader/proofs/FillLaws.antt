@@ -14,15 +14,16 @@ use Rattle.elements.specs.declared.answer.Head.the-variants.{At, No}
 use Rattle.elements.specs.Header.{header}
 use Rattle.elements.specs.Put.{Put, le16}
 use Rattle.elements.specs.Record.{recordBytes}
-use Rattle.reader.specs.declared.part.Part.{Part}
-use Rattle.reader.specs.declared.part.Part.the-variants.{Took, Fails}
+use Rattle.objects.specs.declared.part.Part.{Part}
+use Rattle.objects.specs.declared.part.Part.the-variants.{Took, Fails}
 use Rattle.rules.specs.declared.table.Need.the-variants.{Required}
 use Rattle.rules.specs.Reading.{_then_}
 use Rattle.rules.specs.Parts.{component, components, rest, keptOut}
 use Rattle.rules.specs.Tables.{ciaRows}
 use Rattle.rules.specs.Files.{toFill, filled, fill, ciaBody, ciaElement, ciaFill, cia}
-use Rattle.reader.specs.Did.{Did, fell, Inside, Filled}
-use Rattle.reader.proofs.DidLaws.{did-none, did-one, did-then, did-fails}
+use Rattle.objects.specs.Did.{Did, fell, Inside}
+use Rattle.reader.specs.Filing.{Filled}
+use Rattle.objects.specs.DidLaws.{did-none, did-one, did-then, did-fails}
 use Rattle.rules.specs.Layouts as layouts
 
 module _ (s : List ℕ) (end at : ℕ) where

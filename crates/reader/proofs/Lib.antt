@@ -1,15 +1,4 @@
-pub mod DueLaws
-pub mod RecordLaws
-pub mod DidLaws
-pub mod RowLaws
-pub mod ComponentsLaws
-pub mod KeepLaws
-pub mod RepeatLaws
-pub mod ClassLaws
 pub mod FillLaws
-pub mod ConditionLaws
-pub mod CommonLaws
-pub mod ObjectLaws
 pub mod LiesLaws
 pub mod ScanLaws
 pub mod NameLaws
@@ -18,5 +7,3 @@ pub mod FrameLaws
 pub mod TwelveLaws
 pub mod DirectoriesLaws
 pub mod StageLaws
-pub mod PathLaws
-pub mod KindLaws

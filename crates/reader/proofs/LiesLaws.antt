@@ -16,7 +16,7 @@ use Rattle.rules.specs.Book.{encode}
 use Rattle.rules.specs.LookLaws.{Laid}
 use Rattle.rules.specs.ValueLaws.{two-bytes}
 use Rattle.reader.specs.Scan.{Lies, Whole, behind}
-use Rattle.reader.proofs.DidLaws.{encode-one}
+use Rattle.objects.specs.DidLaws.{encode-one}
 
 -- a part that is known to be two
 pub record Parted (b : List ℕ) (x y z : ℕ) (p q : List ℕ) : Type 0 where

@@ -28,7 +28,7 @@ use Rattle.rules.specs.Entries.{object, item, knownTag, contextTag}
 use Rattle.rules.specs.EntryLaws.{known-low, unknown, entry-body, entry-law, entry-renders}
 use Rattle.rules.specs.Files.{Name, namesOf, paths, met, equal, firstAgain, filled, fill, entryBody, isPath, isNaming, entryPlace}
 use Rattle.cards.specs.CardKinds.{objects-names}
-use Rattle.reader.specs.Did.{PathsTold}
+use Rattle.reader.specs.Filing.{PathsTold}
 use Rattle.reader.specs.declared.scan.Key.the-variants.{Path}
 use Rattle.reader.specs.Scan.{bears, keyAt}
 use Rattle.reader.proofs.LiesLaws.{First}

@@ -24,7 +24,7 @@ use Rattle.rules.specs.Book.{encode}
 use Rattle.rules.specs.LookLaws.{Laid}
 use Rattle.rules.specs.Pays.{pays, idsOf, pays-append}
 use Rattle.reader.specs.Scan.{Lies, Holds, AgainTold, clashOf, IdsTold, NextName, last, found, NameTold, Whole, behind, bears, skip, keyAt, keysOf, Spans, MetTold, RepeatTold, placedKeys, Places, Index, Indexed, Noted}
-use Rattle.reader.proofs.DidLaws.{encode-append}
+use Rattle.objects.specs.DidLaws.{encode-append}
 use Rattle.reader.proofs.LiesLaws.{First, Some, some, some-lie, none-lie, lie-same}
 
 -- what `bears` says, test by test

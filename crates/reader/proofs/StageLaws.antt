@@ -12,12 +12,12 @@ use Rattle.elements.specs.declared.fault.Fault.the-variants.{DumpSize, PathTwic
 use Rattle.elements.specs.Lists.{Bytes, join}
 use Rattle.elements.specs.Put.{Put}
 use Rattle.elements.specs.PutLaws.{put-then, put-length, put-there, put-upto}
-use Rattle.reader.specs.declared.part.Part.{Part}
-use Rattle.reader.specs.declared.part.Part.the-variants.{Took, Fails}
-use Rattle.reader.specs.declared.part.Many.{Many}
-use Rattle.reader.specs.declared.part.Many.the-variants as many
-use Rattle.reader.specs.declared.part.Entries.{Entries}
-use Rattle.reader.specs.declared.part.Entries.the-variants as list
+use Rattle.objects.specs.declared.part.Part.{Part}
+use Rattle.objects.specs.declared.part.Part.the-variants.{Took, Fails}
+use Rattle.objects.specs.declared.part.Many.{Many}
+use Rattle.objects.specs.declared.part.Many.the-variants as many
+use Rattle.reader.specs.declared.answer.Entries.{Entries}
+use Rattle.reader.specs.declared.answer.Entries.the-variants as list
 use Rattle.reader.specs.declared.scan.Clash.{Clash}
 use Rattle.reader.specs.declared.scan.Clash.the-variants.{At, None}
 use Rattle.reader.specs.declared.twelve.Followed.{Followed}
@@ -37,13 +37,14 @@ use Rattle.cards.specs.Card as card
 use Rattle.cards.specs.DumpLaws.{dirs-read}
 use Rattle.cards.specs.CardRender.{files-renders}
 use Rattle.rules.specs.BookLaws.{book-size}
-use Rattle.reader.specs.Did.{Did, did, fell, DidObjects, fellObjects, objectsOf, DidEntries, PathsTold}
+use Rattle.objects.specs.Did.{Did, did, fell}
+use Rattle.reader.specs.Filing.{DidObjects, fellObjects, objectsOf, DidEntries, PathsTold}
 use Rattle.reader.specs.Scan.{Lies, Holds, IdsTold, clashOf}
 use Rattle.reader.specs.Frame.{framedAs, Inner, FramesTold}
 use Rattle.reader.specs.Twelve.{FollowTold, followedAs}
 use Rattle.reader.specs.Directories.{DidFiles, didFiles, fellFiles, FilesTold}
 use Rattle.reader.specs.Stages.{Reads, reads, falls, Framing, Opening, Opened, FilesRead, EntriesRead, PartsRead}
-use Rattle.reader.proofs.DidLaws.{encode-append, did-same}
+use Rattle.objects.specs.DidLaws.{encode-append, did-same}
 use Rattle.reader.proofs.EntryLaws.{objects-open, objects-few, objects-same}
 use Rattle.reader.proofs.LiesLaws.{put-lies, put-lie}
 

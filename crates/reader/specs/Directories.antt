@@ -5,8 +5,8 @@ use mathlib.Core.List.{List}
 use lib.ListN.{length}
 use Rattle.elements.specs.declared.fault.Fault.{Fault}
 use Rattle.elements.specs.Put.{Put}
-use Rattle.reader.specs.declared.part.Many.{Many}
-use Rattle.reader.specs.declared.part.Many.the-variants as many
+use Rattle.objects.specs.declared.part.Many.{Many}
+use Rattle.objects.specs.declared.part.Many.the-variants as many
 use Rattle.rules.specs.Reading.{Rec, Res, took, fails}
 use Rattle.rules.specs.Files.{File, files, frames, namesOf, directories}
 use Rattle.rules.specs.Book.{encode}

@@ -1,4 +1,4 @@
-pub mod Did
+pub mod Filing
 pub mod Scan
 pub mod Frame
 pub mod Twelve

@@ -11,7 +11,7 @@ use Rattle.rules.specs.Reading.{Rec}
 use Rattle.rules.specs.Files.{File, files, frames, Answer, accepted, refused, onRes, od, namesOf, paths, readFiles, readParts}
 use Rattle.rules.specs.Book.{encode}
 use Rattle.rules.specs.LookLaws.{Laid}
-use Rattle.reader.specs.Did.{PathsTold}
+use Rattle.reader.specs.Filing.{PathsTold}
 use Rattle.reader.specs.Scan.{Lies}
 
 -- the code's answer is the definition's: the records behind those that were laid out before, `old`, are laid out from o on in the lent book, which was a and is b

@@ -1,8 +1,8 @@
 use crate::entry::directory;
 use crate::frame::Framed;
 use crate::frame::named_frame;
-use crate::part::Many;
 use crate::scan::next_name;
+use objects::Many;
 use rules::word;
 ghost use Prim.Native.Nat.{_*_, _≤_};
 ghost use lib.ListN.{length};

@@ -1,21 +1,21 @@
+use crate::answer::Entries;
 use crate::fill::fill;
 use crate::fill::goes_on;
-use crate::keep::ended;
-use crate::keep::inner_run;
-use crate::object::object;
-use crate::part::Due;
-use crate::part::Entries;
-use crate::part::Many;
-use crate::part::Part;
-use crate::part::stands;
-use crate::records::put_bare;
-use crate::records::put_behind;
-use crate::records::put_two;
 use crate::scan::first_again;
 use elements::Fault;
 use elements::Head;
 use elements::Run;
 use elements::header;
+use objects::Due;
+use objects::Many;
+use objects::Part;
+use objects::ended;
+use objects::inner_run;
+use objects::object_at;
+use objects::put_bare;
+use objects::put_behind;
+use objects::put_two;
+use objects::stands;
 use rules::Need;
 ghost use mathlib.Core.Path.{_≡_};
 ghost use mathlib.Core.Bool.{_&&_};
@@ -28,7 +28,8 @@ ghost use Rattle.rules.specs.declared.table.Need.the-variants.{Required};
 ghost use Rattle.rules.specs.Reading.{_then_, rec, also};
 ghost use Rattle.rules.specs.Parts.{component, element, ended, repeat, toEnd, sealed};
 ghost use Rattle.rules.specs.Files.{toFill, objects, namedPath, entryInside, entryBody, od, directory};
-ghost use Rattle.reader.specs.Did.{Did, DidObjects, DidEntries, ForwardMany, moreOf, InElement, InContainer};
+ghost use Rattle.objects.specs.Did.{Did, InElement, InContainer};
+ghost use Rattle.reader.specs.Filing.{DidObjects, DidEntries, ForwardMany, moreOf};
 
 // Stores an object's place where there is room for it.
 fn put_place(marks: &mut [u32], k: usize, v: u32) -> usize
@@ -72,7 +73,7 @@ fn objects(
     let mut n = at;
     let mut p = o;
     while more_at(s, file, end, n) {
-        match object(s, entry, j, end, n, out, p) {
+        match object_at(s, entry, j, end, n, out, p) {
             Part::Fails(f, x) => {
                 return Many::Fails(f, x);
             }

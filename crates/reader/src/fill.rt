@@ -1,11 +1,12 @@
-use crate::part::Part;
-use crate::records::put_fill;
 use elements::Fault;
+use objects::Part;
+use objects::put_fill;
 ghost use mathlib.Core.Path.{_≡_};
 ghost use Prim.Native.Nat.{_≤_};
 ghost use lib.ListN.{length};
 ghost use Rattle.rules.specs.Files.{toFill, fill};
-ghost use Rattle.reader.specs.Did.{Did, Filled, InContainer};
+ghost use Rattle.objects.specs.Did.{Did, InContainer};
+ghost use Rattle.reader.specs.Filing.{Filled};
 
 // Whether an element starts at `at`: the file has not ended, and no fill begins.
 pub fn goes_on(s: &[u8], end: usize, at: usize) -> bool

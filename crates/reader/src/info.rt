@@ -1,18 +1,18 @@
-use crate::class::sequence;
 use crate::fill::fill;
 use crate::fill::goes_on;
-use crate::part::Due;
-use crate::part::Part;
-use crate::part::stands;
 use elements::Fault;
 use elements::Head;
 use elements::header;
+use objects::Due;
+use objects::Part;
+use objects::sequence;
+use objects::stands;
 use rules::Need;
 use rules::Sequence;
 ghost use Rattle.rules.specs.declared.table.Need.the-variants.{Required};
 ghost use Rattle.rules.specs.Parts.{component};
 ghost use Rattle.rules.specs.Files.{ciaBody, ciaElement, ciaFill, cia};
-ghost use Rattle.reader.specs.Did.{Did, Inside, InContainer};
+ghost use Rattle.objects.specs.Did.{Did, Inside, InContainer};
 
 // CIAInfo: its contents from a to e.
 fn info_body(s: &[u8], a: usize, e: usize, out: &mut [u8], o: usize) -> Part

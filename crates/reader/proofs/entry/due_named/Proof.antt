@@ -1,5 +1,5 @@
 use borrow.Author.Needs.{needs}
-use Rattle.reader.proofs.DidLaws.{due-low, due-mid, due-high, due-fails, due-absent, due-from}
+use Rattle.objects.specs.DidLaws.{due-low, due-mid, due-high, due-fails, due-absent, due-from}
 use Rattle.reader.proofs.entry.due_named.Statement.{statement}
 use Rattle.reader.proofs.entry.due_named.Tie as tie
 

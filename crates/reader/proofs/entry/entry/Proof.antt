@@ -1,5 +1,5 @@
 use borrow.Author.Needs.{needs}
-use Rattle.reader.proofs.DidLaws.{head-low, head-mid, head-high}
+use Rattle.objects.specs.DidLaws.{head-low, head-mid, head-high}
 use Rattle.reader.proofs.EntryLaws.{element-none, element-objects, forward-many, forward-none}
 use Rattle.reader.proofs.entry.entry.Statement.{statement}
 use Rattle.reader.proofs.entry.entry.Tie as tie

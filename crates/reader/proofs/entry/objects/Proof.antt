@@ -17,7 +17,7 @@ objects-spec =
     μ-loop
     (λ c. search (objects-start, needs))  -- loop-holds
     (λ c κs. search needs)  -- more-at-requires
-    (λ c κs. search needs)  -- object-requires
+    (λ c κs. search needs)  -- object-at-requires
     (λ c. search needs)  -- enum-known-f
     (λ c. search needs)  -- same-length
     (λ c. search needs)  -- same-length-2

@@ -1,5 +1,5 @@
 use borrow.Author.Needs.{needs}
-use Rattle.reader.proofs.DidLaws.{did-high, did-small, did-fails, did-ends}
+use Rattle.objects.specs.DidLaws.{did-high, did-small, did-fails, did-ends}
 use Rattle.reader.proofs.entry.path_entry.Statement.{statement}
 use Rattle.reader.proofs.entry.path_entry.Tie as tie
 

@@ -1,5 +1,5 @@
 use borrow.Author.Needs.{needs}
-use Rattle.reader.proofs.DidLaws.{due-low, due-mid, due-high, due-room, due-fails, due-absent, due-in}
+use Rattle.objects.specs.DidLaws.{due-low, due-mid, due-high, due-room, due-fails, due-absent, due-in}
 use Rattle.reader.proofs.info.due_info.Statement.{statement}
 use Rattle.reader.proofs.info.due_info.Tie as tie
 

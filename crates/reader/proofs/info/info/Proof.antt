@@ -1,5 +1,5 @@
 use borrow.Author.Needs.{needs}
-use Rattle.reader.proofs.DidLaws.{did-high, did-small}
+use Rattle.objects.specs.DidLaws.{did-high, did-small}
 use Rattle.reader.proofs.FillLaws.{info-fails, info-then}
 use Rattle.reader.proofs.info.info.Statement.{statement}
 use Rattle.reader.proofs.info.info.Tie as tie

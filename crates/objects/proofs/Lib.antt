@@ -1,0 +1,10 @@
+pub mod DueLaws
+pub mod RecordLaws
+pub mod RowLaws
+pub mod KeepLaws
+pub mod ClassLaws
+pub mod ConditionLaws
+pub mod CommonLaws
+pub mod PathLaws
+pub mod TypeLaws
+pub mod ObjectLaws

@@ -1,0 +1,152 @@
+-- A row's record: the ways through its judging.
+use Prim.Native.Nat.{ℕ, _+_, _-_, _*_, _<_, _≤_}
+use mathlib.Core.Path.{_≡_, refl, sym, _∙_}
+use mathlib.Core.Bool.{Bool, true, false}
+use mathlib.Core.List.{List, [], _∷_}
+use native.Mathlib.Omega.{arith}
+use lib.ListN.{length, getD}
+use lib.Seq.{slice, length-slice}
+use lib.Dec.{leb, eqb}
+use borrow.Author.Tests.{lt-leb, le-leb}
+use Rattle.elements.specs.declared.fault.Fault.{Fault}
+use Rattle.elements.specs.declared.fault.Fault.the-variants.{DefaultWritten, OutOfRange, BadSize}
+use Rattle.elements.specs.declared.answer.Form.{Form}
+use Rattle.elements.specs.declared.answer.Form.the-variants.{Integer, Boolean, Bits, Octets, Text, Time, Null}
+use Rattle.elements.specs.declared.answer.Value.{Value}
+use Rattle.elements.specs.declared.answer.Value.the-variants.{Of, Wrong}
+use Rattle.elements.specs.declared.answer.Read.{Read}
+use Rattle.elements.specs.declared.answer.Read.the-variants as read
+use Rattle.elements.specs.ChoiceLaws.{by-pick}
+use Rattle.elements.specs.Put.{Put, le32}
+use Rattle.elements.specs.Record.{recordBytes}
+use Rattle.elements.specs.Boolean.{boolean}
+use Rattle.elements.specs.Values.{value, placed}
+use Rattle.objects.specs.declared.part.Part.{Part}
+use Rattle.objects.specs.declared.part.Part.the-variants.{Took, Fails}
+use Rattle.rules.specs.declared.table.Need.{Need}
+use Rattle.rules.specs.declared.table.Need.the-variants.{Default}
+use Rattle.rules.specs.declared.table.Row.{Row}
+use Rattle.rules.specs.Parts.{isDefault, inBounds, payload, valued, rowBody}
+use Rattle.objects.specs.Did.{Did, fell}
+use Rattle.objects.specs.DidLaws.{did-one}
+
+pub default-is : {need : Need} {n : Bool} {d : ℕ} (m : ℕ) → need ≡ Default d → n ≡ false → eqb m d ≡ isDefault need n m
+default-is m e z = rw (e, z) refl
+
+module _ (r : Row) {n : Bool} (m : ℕ) (z : n ≡ false) where
+  pub bounds-below : m < r .low → false ≡ inBounds r n m
+  bounds-below h = rw (z, lt-leb (r .low) m h) refl
+
+  pub bounds-above : r .low ≤ m → leb m (r .high) ≡ inBounds r n m
+  bounds-above h = rw (z, le-leb (r .low) m h) refl
+
+module _ (r : Row) (n : Bool) (m at e : ℕ) where
+  pub number-default : {a : List ℕ} {o : ℕ} {t : Bool} → t ≡ isDefault (r .need) n m → t ≡ true → Did a a o at e (valued r at e (payload Integer r [] n m)) (Fails DefaultWritten at)
+  unfolding payload
+  number-default u v = rw (sym u ∙ v) (fell refl)
+
+  module _ {t x : Bool} (u : t ≡ isDefault (r .need) n m) (v : t ≡ false) (w : x ≡ inBounds r n m) where
+    pub number-out : {a : List ℕ} {o : ℕ} → x ≡ false → Did a a o at e (valued r at e (payload Integer r [] n m)) (Fails OutOfRange at)
+    unfolding payload
+    number-out y = rw (sym u ∙ v, sym w ∙ y) (fell refl)
+
+    pub number-put : {a b : List ℕ} {o q : ℕ} → x ≡ true → at + 2 ≤ e → o ≤ 8 * at → q ≡ o + 8 → Put a b o q (recordBytes (r .kind) (le32 m)) → Did a b o at e (valued r at e (payload Integer r [] n m)) (Took e q)
+    unfolding payload
+    number-put y h l p f = rw (sym u ∙ v, sym w ∙ y) (did-one (r .kind) (le32 m) at e f (omega arith) (omega arith))
+
+  module _ {t : Bool} (u : t ≡ isDefault (r .need) n m) where
+    pub boolean-default : {a : List ℕ} {o : ℕ} → t ≡ true → Did a a o at e (valued r at e (payload Boolean r [] n m)) (Fails DefaultWritten at)
+    unfolding payload
+    boolean-default v = rw (sym u ∙ v) (fell refl)
+
+    pub boolean-put : {a b : List ℕ} {o q : ℕ} → t ≡ false → at + 2 ≤ e → o ≤ 8 * at → q ≡ o + 5 → Put a b o q (recordBytes (r .kind) (m ∷ [])) → Did a b o at e (valued r at e (payload Boolean r [] n m)) (Took e q)
+    unfolding payload
+    boolean-put v h l p f = rw (sym u ∙ v) (did-one (r .kind) (m ∷ []) at e f (omega arith) (omega arith))
+
+as-form : {a b : List ℕ} {o : ℕ} (r : Row) (c : List ℕ) (n : Bool) (m at e : ℕ) {w : Part} {f : Form} (g : Form) → f ≡ g → Did a b o at e (valued r at e (payload g r c n m)) w → Did a b o at e (valued r at e (payload f r c n m)) w
+as-form r c n m at e g z d = rw z d
+
+module _ (s : List ℕ) (r : Row) (n : Bool) (at x e : ℕ) where
+  module _ {t : Bool} (k : e ≤ length s) (w : t ≡ inBounds r n (e - x)) where
+    pub bytes-out : {a : List ℕ} {o : ℕ} → t ≡ false → Did a a o at e (valued r at e (payload Octets r (slice x e s) n 0)) (Fails BadSize at)
+    unfolding payload
+    bytes-out y = rw (length-slice x e s k, sym w ∙ y) (fell refl)
+
+    pub bytes-put : {a b : List ℕ} {o q : ℕ} → t ≡ true → at + 2 ≤ x → x ≤ e → o ≤ 8 * at → q ≡ o + 4 + (e - x) → Put a b o q (recordBytes (r .kind) (slice x e s)) → Did a b o at e (valued r at e (payload Octets r (slice x e s) n 0)) (Took e q)
+    unfolding payload
+    bytes-put y h i l p f = rw (length-slice x e s k, sym w ∙ y) (did-one (r .kind) (slice x e s) at e f (omega arith) (omega arith))
+
+  module _ (m : ℕ) where
+    abbrev judging : List ℕ → List ℕ → ℕ → Part → Type 0
+    judging a b o w = Did a b o at e (valued r at e (payload (r .form) r (slice x e s) n m)) w
+
+    pub judged-integer : {a b : List ℕ} {o : ℕ} {w : Part} → r .form ≡ Integer → Did a b o at e (valued r at e (payload Integer r [] n m)) w → judging a b o w
+    unfolding payload
+    judged-integer z d = as-form r (slice x e s) n m at e Integer z d
+
+    pub judged-boolean : {a b : List ℕ} {o : ℕ} {w : Part} → r .form ≡ Boolean → Did a b o at e (valued r at e (payload Boolean r [] n m)) w → judging a b o w
+    unfolding payload
+    judged-boolean z d = as-form r (slice x e s) n m at e Boolean z d
+
+    pub judged-octets : {a b : List ℕ} {o : ℕ} {w : Part} → r .form ≡ Octets → Did a b o at e (valued r at e (payload Octets r (slice x e s) n 0)) w → judging a b o w
+    unfolding payload
+    judged-octets z d = as-form r (slice x e s) n m at e Octets z d
+
+    pub judged-text : {a b : List ℕ} {o : ℕ} {w : Part} → r .form ≡ Text → Did a b o at e (valued r at e (payload Octets r (slice x e s) n 0)) w → judging a b o w
+    unfolding payload
+    judged-text z d = as-form r (slice x e s) n m at e Text z d
+
+    module _ {a b : List ℕ} {o q : ℕ} (h : at + 2 ≤ x) (i : x ≤ e) (l : o ≤ 8 * at) where
+      pub judged-bits : r .form ≡ Bits → q ≡ o + 8 → Put a b o q (recordBytes (r .kind) (le32 m)) → judging a b o (Took e q)
+      unfolding payload
+      judged-bits z p f = as-form r (slice x e s) n m at e Bits z (did-one (r .kind) (le32 m) at e f (omega arith) (omega arith))
+
+      module _ (p : q ≡ o + 4 + (e - x)) (f : Put a b o q (recordBytes (r .kind) (slice x e s))) where
+        pub judged-time : r .form ≡ Time → judging a b o (Took e q)
+        unfolding payload
+        judged-time z = as-form r (slice x e s) n m at e Time z (did-one (r .kind) (slice x e s) at e f (omega arith) (omega arith))
+
+        pub judged-null : r .form ≡ Null → judging a b o (Took e q)
+        unfolding payload
+        judged-null z = as-form r (slice x e s) n m at e Null z (did-one (r .kind) (slice x e s) at e f (omega arith) (omega arith))
+
+pub boolean-byte : {f : Form} {m : ℕ} → (f ≡ Boolean → m < 256) → f ≡ Boolean → m < 256
+boolean-byte h e = h e
+
+-- a BOOLEAN says 0 or 1
+boolean-small : (c : List ℕ) {n : Bool} {m : ℕ} → boolean c ≡ Of n m → m < 256
+unfolding boolean
+boolean-small c {n} {m} = by-pick P (eqb (length c) 1)
+    (λ _. by-pick P (eqb (getD c 0 0) 0) (λ _ e. let z : m ≡ 0 = cc in omega arith) (λ _. by-pick P (eqb (getD c 0 0) 255) (λ _ e. let z : m ≡ 1 = cc in omega arith) (λ _ e. wrong e))) (λ _ e. wrong e)
+  where
+    P : Value → Type 0
+    P v = v ≡ Of n m → m < 256
+
+    wrong : {f : Fault} → Wrong f ≡ Of n m → m < 256
+    wrong e = let z : _≡_ {A = ℕ} 0 1 = cc in absurd (omega arith)
+
+boolean-form : (c : List ℕ) {f : Form} {n : Bool} {m : ℕ} → f ≡ Boolean → value f c ≡ Of n m → m < 256
+unfolding value
+boolean-form c y e = boolean-small c (rw y at e)
+
+refused-was : (at e : ℕ) (w : Value) {f : Fault} {p : ℕ} → placed at e w ≡ read.Refused f p → (w ≡ Wrong f) × (p ≡ at)
+refused-was at e (Of n m) z = let y : _≡_ {A = ℕ} 0 1 = cc in absurd (omega arith)
+refused-was at e (Wrong f) z = (cc, cc)
+
+taken-was : (at e : ℕ) (w : Value) {n : Bool} {m i : ℕ} → placed at e w ≡ read.Took n m i → w ≡ Of n m
+taken-was at e (Of n m) z = cc
+taken-was at e (Wrong f) z = let y : _≡_ {A = ℕ} 0 1 = cc in absurd (omega arith)
+
+module _ (s : List ℕ) (r : Row) (at x e : ℕ) {v : Read} (k : v ≡ placed at e (value (r .form) (slice x e s))) where
+  pub row-refused : {a : List ℕ} {o : ℕ} {f : Fault} {p : ℕ} → v ≡ read.Refused f p → Did a a o at e (rowBody s r at x e) (Fails f p)
+  unfolding rowBody
+  row-refused z = let u = refused-was at e (value (r .form) (slice x e s)) (sym k ∙ z) in rw (u .0, u .1) (fell refl)
+
+  module _ {n : Bool} {m i : ℕ} (z : v ≡ read.Took n m i) where
+    pub row-boolean : r .form ≡ Boolean → m < 256
+    unfolding value
+    row-boolean y = boolean-form (slice x e s) y (taken-was at e (value (r .form) (slice x e s)) (sym k ∙ z))
+
+    pub row-taken : {a b : List ℕ} {o : ℕ} {w : Part} → Did a b o at e (valued r at e (payload (r .form) r (slice x e s) n m)) w → Did a b o at e (rowBody s r at x e) w
+    unfolding rowBody
+    row-taken d = rw (taken-was at e (value (r .form) (slice x e s)) (sym k ∙ z)) d

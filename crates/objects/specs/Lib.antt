@@ -1,0 +1,4 @@
+pub mod Did
+pub mod DidLaws
+pub mod ComponentsLaws
+pub mod RepeatLaws

@@ -1,0 +1,49 @@
+-- What the code does of a file's parts: its fill, its objects with their places, EF.OD's entries.
+use Prim.Native.Nat.{ℕ, _-_, _*_, _≤_, _<_}
+use mathlib.Core.Path.{_≡_}
+use mathlib.Core.List.{List, []}
+use mathlib.Core.Bool.{Bool, true, false}
+use lib.ListN.{length}
+use Rattle.elements.specs.declared.fault.Fault.{Fault}
+use Rattle.elements.specs.declared.fault.Fault.the-variants.{FillDiffers}
+use Rattle.elements.specs.Put.{Put}
+use Rattle.objects.specs.declared.part.Many.{Many}
+use Rattle.objects.specs.declared.part.Many.the-variants as many
+use Rattle.reader.specs.declared.answer.Entries.{Entries}
+use Rattle.reader.specs.declared.answer.Entries.the-variants as entries
+use Rattle.rules.specs.Reading.{Rec, Res, took, fails}
+use Rattle.rules.specs.Parts.{toEnd}
+use Rattle.rules.specs.Files.{toFill, filled, namesOf, paths, firstAgain, entryPlace}
+use Rattle.rules.specs.Book.{encode}
+
+-- r is the first place from `at` on that differs from b, or the end
+pub record Filled (s : List ℕ) (b end at r : ℕ) : Type 0 where
+  pub bad : r < end → filled s b (end - at) end at ≡ fails FillDiffers r
+  pub all : end ≤ r → filled s b (end - at) end at ≡ took [] [] end
+
+-- the same of objects, the places of which are stored from k on in lent marks, which were u and are v
+pub data DidObjects (a b u v : List ℕ) (o at end k : ℕ) : Res → Many → Type 0 where
+  didObjects : {bs : List Rec} {ms : List ℕ} {n q j : ℕ} → Put a b o q (encode bs) → Put u v k j ms → at ≤ n → n ≤ end → q ≤ 8 * n → j ≤ 128 → DidObjects a b u v o at end k (took bs ms n) (many.Took n q j)
+  fellObjects : {f : Fault} {p : ℕ} → length b ≡ length a → length v ≡ length u → DidObjects a b u v o at end k (fails f p) (many.Fails f p)
+
+-- 12: `again` is the place of the first entry of EF.OD that names a path once more, or 0, and all the paths ps differ
+pub record PathsTold (s : List ℕ) (end at : ℕ) (ps : List (List ℕ)) (again : ℕ) : Type 0 where
+  pub never : again ≡ 0 → firstAgain [] ps ≡ length ps
+  pub twice : 0 < again → (firstAgain [] ps < length ps) × (again ≡ entryPlace s (length s) (firstAgain [] ps) end at)
+
+-- the same of EF.OD's entries, with that place
+abbrev pub objectsOf : Entries → Many
+objectsOf (entries.Took n q j again) = many.Took n q j
+objectsOf (entries.Fails f p) = many.Fails f p
+
+pub record DidEntries (s a b u v : List ℕ) (o at end : ℕ) (w : Res) (r : Entries) : Type 0 where
+  pub objects : DidObjects a b u v o at end 0 w (objectsOf r)
+  pub told : {cs : List Rec} {ms : List ℕ} {m n q j again : ℕ} → w ≡ took cs ms m → r ≡ entries.Took n q j again → PathsTold s end at (paths (namesOf cs)) again
+
+pub record ForwardMany (at : ℕ) (r : Many) : Type 0 where
+  pub is : (n q j : ℕ) → r ≡ many.Took n q j → at < n
+
+-- objects go up to the fill of a file, or up to their container's end
+abbrev pub moreOf : List ℕ → Bool → ℕ → ℕ → Bool
+moreOf s true end at = toFill s end at
+moreOf s false end at = toEnd end at
