@@ -24,14 +24,6 @@ use Rattle.objects.specs.Did.{Did, fell, Stays, Inside}
 use Rattle.objects.specs.DidLaws.{did-one, did-as, did-fails, did-ends}
 use Rattle.rules.specs.Layouts as layouts
 
--- all rows of a table
-pub whole-rows : {a b : List ℕ} {o at end c : ℕ} {r : Part} (s : List ℕ) (rs : List Row) → c ≡ length rs → Did a b o at end (components s (slice 0 c rs) end at) r → Did a b o at end (components s rs end at) r
-whole-rows s rs e d = did-as d (rw (e, slice-all rs) refl)
-  where
-    slice-all : (l : List Row) → slice 0 (length l) l ≡ l
-    slice-all [] = refl
-    slice-all (x ∷ l) = rw (slice-all l) refl
-
 module _ (s : List ℕ) (at x e : ℕ) {r : Run} (k : r ≡ sealedRun 16 s [] x e) where
   pub container-bad : (a : List ℕ) (o : ℕ) {f : Fault} {p : ℕ} → r ≡ Refused f p → Did a a o x e (classBody s Containers at x e) (Fails f p)
   unfolding layouts.class

@@ -3,6 +3,7 @@ use Prim.Native.Nat.{ℕ, _+_, _-_, _*_, _/_, _%_, _<_, _≤_}
 use mathlib.Core.Path.{_≡_, refl, sym, _∙_}
 use mathlib.Core.List.{List, []}
 use native.Mathlib.Omega.{arith}
+use lib.ListN.{length, take}
 use lib.Seq.{slice}
 use borrow.Author.Tests.{lt-ltb, le-ltb, eq-eqb, ne-eqb}
 use Rattle.elements.specs.declared.fault.Fault.{Fault}
@@ -15,10 +16,14 @@ use Rattle.elements.specs.Header.{header}
 use Rattle.elements.specs.Put.{Put}
 use Rattle.elements.specs.Record.{recordBytes}
 use Rattle.elements.specs.Sealed.{sealedRun}
+use Rattle.objects.specs.declared.part.Part.{Part}
 use Rattle.objects.specs.declared.part.Part.the-variants.{Took, Fails}
 use Rattle.rules.specs.Parts.{ended, rest, sealed, innerRun}
+use Rattle.rules.specs.declared.table.Sequence.{Sequence}
+use Rattle.rules.specs.Tables.{restOf, keptOf}
+use Rattle.elements.specs.PutLaws.{put-length, put-upto}
 use Rattle.objects.specs.Did.{Did, fell, Stays}
-use Rattle.objects.specs.DidLaws.{did-none, did-one}
+use Rattle.objects.specs.DidLaws.{did-none, did-one, did-as}
 
 module _ (s : List ℕ) (end at o : ℕ) where
   pub ended-none : end ≤ at → at ≤ end → o ≤ 8 * at → Stays o at end (ended s end at) (Took at o)
@@ -63,3 +68,10 @@ module _ (s : List ℕ) (kind t at x e : ℕ) {r : Run} (k : r ≡ innerRun s t 
   pub sealed-put : {a b : List ℕ} {o p i : ℕ} → r ≡ Ends i → at + 2 ≤ x → x ≤ e → o ≤ 8 * at → p ≡ o + 4 + (e - at) → Put a b o p (recordBytes kind (slice at e s)) → Did a b o x e (sealed s kind [] t at x e) (Took e p)
   unfolding sealed
   sealed-put q h i l n f = rw (sym k ∙ q) (did-one kind (slice at e s) x e f i (omega arith))
+
+-- the rest of a sequence, whose tags were put into x
+pub kept-room : {x y z : List ℕ} {n : ℕ} → Put x y 0 n z → n ≤ 9 → 9 ≤ length x → n ≤ length y
+kept-room f h l = omega (arith, put-length f)
+
+pub rest-kept : {a b : List ℕ} {o at end : ℕ} {r : Part} (s : List ℕ) (q : Sequence) {x y : List ℕ} {n kind : ℕ} → Put x y 0 n (keptOf q) → n ≤ length x → kind ≡ restOf q → Did a b o at end (rest s kind (take n y) end at) r → Did a b o at end (rest s (restOf q) (keptOf q) end at) r
+rest-kept s q f h e d = did-as d (rw (e, put-upto f h) refl)

@@ -26,9 +26,9 @@ use Rattle.objects.specs.declared.part.Part.the-variants.{Took, Fails}
 use Rattle.rules.specs.declared.table.Need.{Need}
 use Rattle.rules.specs.declared.table.Need.the-variants.{Default}
 use Rattle.rules.specs.declared.table.Row.{Row}
-use Rattle.rules.specs.Parts.{isDefault, inBounds, payload, valued, rowBody}
+use Rattle.rules.specs.Parts.{isDefault, inBounds, payload, valued, rowBody, components}
 use Rattle.objects.specs.Did.{Did, fell}
-use Rattle.objects.specs.DidLaws.{did-one}
+use Rattle.objects.specs.DidLaws.{did-one, did-as}
 
 pub default-is : {need : Need} {n : Bool} {d : ℕ} (m : ℕ) → need ≡ Default d → n ≡ false → eqb m d ≡ isDefault need n m
 default-is m e z = rw (e, z) refl
@@ -150,3 +150,11 @@ module _ (s : List ℕ) (r : Row) (at x e : ℕ) {v : Read} (k : v ≡ placed at
     pub row-taken : {a b : List ℕ} {o : ℕ} {w : Part} → Did a b o at e (valued r at e (payload (r .form) r (slice x e s) n m)) w → Did a b o at e (rowBody s r at x e) w
     unfolding rowBody
     row-taken d = rw (taken-was at e (value (r .form) (slice x e s)) (sym k ∙ z)) d
+
+-- all rows of a table
+pub whole-rows : {a b : List ℕ} {o at end c : ℕ} {r : Part} (s : List ℕ) (rs : List Row) → c ≡ length rs → Did a b o at end (components s (slice 0 c rs) end at) r → Did a b o at end (components s rs end at) r
+whole-rows s rs e d = did-as d (rw (e, slice-all rs) refl)
+  where
+    slice-all : (l : List Row) → slice 0 (length l) l ≡ l
+    slice-all [] = refl
+    slice-all (x ∷ l) = rw (slice-all l) refl

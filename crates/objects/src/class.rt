@@ -1,5 +1,5 @@
 use crate::keep::ended;
-use crate::keep::rest;
+use crate::keep::rest_in;
 use crate::keep::sealed;
 use crate::part::Due;
 use crate::part::Part;
@@ -12,14 +12,12 @@ use elements::put_record;
 use rules::Class;
 use rules::Need;
 use rules::Sequence;
-ghost use mathlib.Core.Path.{_≡_};
 ghost use mathlib.Core.List.{[]};
-ghost use lib.ListN.{length};
 ghost use Rattle.rules.specs.declared.table.Need.the-variants.{Required, Optional};
 ghost use Rattle.rules.specs.declared.table.Class.the-variants.{Containers};
-ghost use Rattle.rules.specs.Parts.{component, components, rest, keptOut, element, sealed};
+ghost use Rattle.rules.specs.Parts.{component, components, rest, element, sealed};
 ghost use Rattle.rules.specs.Reading.{_then_};
-ghost use Rattle.rules.specs.Tables.{rowsOf, classOf};
+ghost use Rattle.rules.specs.Tables.{rowsOf, restOf, keptOf};
 ghost use Rattle.rules.specs.Objects.{classBody, subclass};
 ghost use Rattle.objects.specs.Did.{Did, Inside, InElement, InContainer};
 
@@ -35,23 +33,13 @@ fn container(s: &[u8], at: usize, a: usize, e: usize, out: &mut [u8], o: usize) 
 }
 
 // The components of a sequence, and its rest.
-pub fn sequence(
-    s: &[u8],
-    q: Sequence,
-    count: usize,
-    kind: u16,
-    tags: &[u8],
-    end: usize,
-    at: usize,
-    out: &mut [u8],
-    o: usize,
-) -> Part
-    requires { ⌜ (count ≡ length (rowsOf q)) × InContainer (now s) end at o ⌝ }
-    ensures { λ r. ⌜ Did (now (out .entry)) (now (out .exit)) o at end ((components (now (s .entry)) (rowsOf q) then rest (now (s .entry)) kind (now (tags .entry))) end at) r ⌝ }
+pub fn sequence(s: &[u8], q: Sequence, end: usize, at: usize, out: &mut [u8], o: usize) -> Part
+    requires { ⌜ InContainer (now s) end at o ⌝ }
+    ensures { λ r. ⌜ Did (now (out .entry)) (now (out .exit)) o at end ((components (now (s .entry)) (rowsOf q) then rest (now (s .entry)) (restOf q) (keptOf q)) end at) r ⌝ }
 {
-    match components(s, q, 0, count, end, at, out, o) {
+    match components(s, q, end, at, out, o) {
         Part::Fails(f, p) => Part::Fails(f, p),
-        Part::Took(n, t) => rest(s, kind, tags, end, n, out, t),
+        Part::Took(n, t) => rest_in(s, q, end, n, out, t),
     }
 }
 
@@ -61,29 +49,9 @@ fn class_body(s: &[u8], c: Class, at: usize, a: usize, e: usize, out: &mut [u8],
     ensures { λ r. ⌜ Did (now (out .entry)) (now (out .exit)) o a e (classBody (now (s .entry)) c at a e) r ⌝ }
 {
     match c {
-        Class::Keys => sequence(
-            s,
-            Sequence::Key,
-            7,
-            0x013f,
-            &[0x01, 0x03, 0x02, 0x18, 0x80],
-            e,
-            a,
-            out,
-            o,
-        ),
-        Class::Certificates => sequence(s, Sequence::Certificate, 2, 0x014f, &[0x01], e, a, out, o),
-        Class::Authentications => sequence(
-            s,
-            Sequence::Authentication,
-            3,
-            0x015f,
-            &[0x04, 0x02, 0x80],
-            e,
-            a,
-            out,
-            o,
-        ),
+        Class::Keys => sequence(s, Sequence::Key, e, a, out, o),
+        Class::Certificates => sequence(s, Sequence::Certificate, e, a, out, o),
+        Class::Authentications => sequence(s, Sequence::Authentication, e, a, out, o),
         Class::Containers => container(s, at, a, e, out, o),
     }
 }

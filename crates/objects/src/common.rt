@@ -1,5 +1,5 @@
 use crate::condition::condition;
-use crate::keep::rest;
+use crate::keep::rest_in;
 use crate::part::Due;
 use crate::part::Part;
 use crate::part::stands;
@@ -18,11 +18,11 @@ fn rule(s: &[u8], a: usize, e: usize, out: &mut [u8], o: usize) -> Part
     requires { ⌜ InContainer (now s) e a o ⌝ }
     ensures { λ r. ⌜ Inside (now (out .entry)) (now (out .exit)) o a e (rule (now (s .entry))) r ⌝ }
 {
-    match components(s, Sequence::Rule, 0, 1, e, a, out, o) {
+    match components(s, Sequence::Rule, e, a, out, o) {
         Part::Fails(f, p) => Part::Fails(f, p),
         Part::Took(n, q) => match condition(s, 8, 0, e, n, out, q) {
             Part::Fails(f, p) => Part::Fails(f, p),
-            Part::Took(m, t) => rest(s, 0x012c, &s[..0], e, m, out, t),
+            Part::Took(m, t) => rest_in(s, Sequence::Rule, e, m, out, t),
         },
     }
 }
@@ -88,11 +88,11 @@ fn common(s: &[u8], a: usize, e: usize, out: &mut [u8], o: usize) -> Part
     requires { ⌜ InContainer (now s) e a o ⌝ }
     ensures { λ r. ⌜ Inside (now (out .entry)) (now (out .exit)) o a e (common (now (s .entry))) r ⌝ }
 {
-    match components(s, Sequence::Common, 0, 4, e, a, out, o) {
+    match components(s, Sequence::Common, e, a, out, o) {
         Part::Fails(f, p) => Part::Fails(f, p),
         Part::Took(n, q) => match due_rules(s, e, n, out, q) {
             Part::Fails(f, p) => Part::Fails(f, p),
-            Part::Took(m, t) => rest(s, 0x012f, &[0x30, 0x0c, 0x03, 0x04, 0x02], e, m, out, t),
+            Part::Took(m, t) => rest_in(s, Sequence::Common, e, m, out, t),
         },
     }
 }

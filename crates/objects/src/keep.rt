@@ -4,11 +4,15 @@ use elements::Head;
 use elements::Run;
 use elements::header;
 use elements::put_record;
+use rules::Sequence;
+use rules::kept_out;
+use rules::rest_of;
 ghost use mathlib.Core.Path.{_≡_};
 ghost use mathlib.Core.List.{[]};
 ghost use Prim.Native.Nat.{_≤_};
 ghost use lib.ListN.{length};
 ghost use Rattle.rules.specs.Parts.{ended, rest, sealed, innerRun};
+ghost use Rattle.rules.specs.Tables.{restOf, keptOf};
 ghost use Rattle.objects.specs.Did.{Did, Stays, InElement, InContainer};
 
 // Nothing more is due: what was put stays put up to o.
@@ -45,6 +49,35 @@ pub fn rest(
         Run::Refused(f, p) => Part::Fails(f, p),
         Run::Ends(_) => Part::Took(end, put_record(out, o, kind, s, at, end)),
     }
+}
+
+// The rest of a sequence whose components stand in a table; `tags` has room for the tags that are kept out.
+fn rest_by(
+    s: &[u8],
+    q: Sequence,
+    tags: &mut [u8],
+    end: usize,
+    at: usize,
+    out: &mut [u8],
+    o: usize,
+) -> Part
+    requires { ⌜ (9 ≤ length (now tags)) × InContainer (now s) end at o ⌝ }
+    ensures { λ r. ⌜ Did (now (out .entry)) (now (out .exit)) o at end (rest (now (s .entry)) (restOf q) (keptOf q) end at) r ⌝ }
+{
+    let n = kept_out(q, tags);
+    rest(s, rest_of(q), &tags[..n], end, at, out, o)
+}
+
+// The same, by itself.
+pub fn rest_in(s: &[u8], q: Sequence, end: usize, at: usize, out: &mut [u8], o: usize) -> Part
+    requires { ⌜ InContainer (now s) end at o ⌝ }
+    ensures { λ r. ⌜ Did (now (out .entry)) (now (out .exit)) o at end (rest (now (s .entry)) (restOf q) (keptOf q) end at) r ⌝ }
+{
+    if end <= at {
+        return Part::Took(at, o);
+    }
+    let mut tags: [u8; 9] = [0; 9];
+    rest_by(s, q, &mut tags, end, at, out, o)
 }
 
 // The contents of a sealed element on the first level.

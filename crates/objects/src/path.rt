@@ -1,6 +1,6 @@
 use crate::keep::ended;
 use crate::part::Part;
-use crate::row::components;
+use crate::row::some_components;
 use elements::Fault;
 use rules::Sequence;
 ghost use Rattle.rules.specs.Objects.{path};
@@ -27,11 +27,11 @@ pub fn path(s: &[u8], at: usize, a: usize, e: usize, out: &mut [u8], o: usize) -
     requires { ⌜ InElement (now s) at a e o ⌝ }
     ensures { λ r. ⌜ Did (now (out .entry)) (now (out .exit)) o a e (path (now (s .entry)) at a e) r ⌝ }
 {
-    match components(s, Sequence::Path, 0, 1, e, a, out, o) {
+    match some_components(s, Sequence::Path, 0, 1, e, a, out, o) {
         Part::Fails(f, p) => Part::Fails(f, p),
-        Part::Took(i, q) => match components(s, Sequence::Path, 1, 2, e, i, out, q) {
+        Part::Took(i, q) => match some_components(s, Sequence::Path, 1, 2, e, i, out, q) {
             Part::Fails(f, p) => Part::Fails(f, p),
-            Part::Took(j, t) => match components(s, Sequence::Path, 2, 3, e, j, out, t) {
+            Part::Took(j, t) => match some_components(s, Sequence::Path, 2, 3, e, j, out, t) {
                 Part::Fails(f, p) => Part::Fails(f, p),
                 Part::Took(k, u) => match ended(s, e, k, u) {
                     Part::Fails(f, p) => Part::Fails(f, p),

@@ -11,6 +11,7 @@ use elements::value_at;
 use rules::Need;
 use rules::Row;
 use rules::Sequence;
+use rules::count_of;
 use rules::row_of;
 ghost use mathlib.Core.Path.{_≡_};
 ghost use Prim.Native.Nat.{_+_, _*_, _≤_, _<_};
@@ -151,7 +152,7 @@ fn component(s: &[u8], r: Row, end: usize, at: usize, out: &mut [u8], o: usize) 
 }
 
 // The components of a sequence from the i-th up to the last-th, in their order.
-pub fn components(
+pub fn some_components(
     s: &[u8],
     q: Sequence,
     i: usize,
@@ -180,4 +181,12 @@ pub fn components(
         k += 1;
     }
     Part::Took(n, p)
+}
+
+// The components of a sequence, in their order.
+pub fn components(s: &[u8], q: Sequence, end: usize, at: usize, out: &mut [u8], o: usize) -> Part
+    requires { ⌜ InContainer (now s) end at o ⌝ }
+    ensures { λ w. ⌜ Did (now (out .entry)) (now (out .exit)) o at end (components (now (s .entry)) (rowsOf q) end at) w ⌝ }
+{
+    some_components(s, q, 0, count_of(q), end, at, out, o)
 }

@@ -1,6 +1,7 @@
 use crate::class::any_sealed;
 use crate::keep::ended;
 use crate::keep::rest;
+use crate::keep::rest_in;
 use crate::keep::sealed;
 use crate::part::Due;
 use crate::part::Part;
@@ -45,9 +46,9 @@ fn private_key(s: &[u8], a: usize, e: usize, out: &mut [u8], o: usize) -> Part
 {
     match due_path(s, Need::Required, e, a, out, o) {
         Part::Fails(f, p) => Part::Fails(f, p),
-        Part::Took(n, q) => match components(s, Sequence::PrivateKey, 0, 1, e, n, out, q) {
+        Part::Took(n, q) => match components(s, Sequence::PrivateKey, e, n, out, q) {
             Part::Fails(f, p) => Part::Fails(f, p),
-            Part::Took(m, t) => rest(s, 0x018f, &s[..0], e, m, out, t),
+            Part::Took(m, t) => rest_in(s, Sequence::PrivateKey, e, m, out, t),
         },
     }
 }
@@ -95,11 +96,11 @@ fn password_parts(s: &[u8], a: usize, e: usize, out: &mut [u8], o: usize) -> Par
     requires { ⌜ InContainer (now s) e a o ⌝ }
     ensures { λ r. ⌜ Did (now (out .entry)) (now (out .exit)) o a e ((components (now (s .entry)) passwordRows then component (now (s .entry)) 0x30 Optional (path (now (s .entry))) then rest (now (s .entry)) 0x019f (0x30 ∷ keptOut passwordRows)) e a) r ⌝ }
 {
-    match components(s, Sequence::Password, 0, 8, e, a, out, o) {
+    match components(s, Sequence::Password, e, a, out, o) {
         Part::Fails(f, p) => Part::Fails(f, p),
         Part::Took(n, q) => match due_path(s, Need::Optional, e, n, out, q) {
             Part::Fails(f, p) => Part::Fails(f, p),
-            Part::Took(m, t) => rest(s, 0x019f, &[0x30, 0x02, 0x80, 0x04, 0x18], e, m, out, t),
+            Part::Took(m, t) => rest_in(s, Sequence::Password, e, m, out, t),
         },
     }
 }

@@ -19,17 +19,7 @@ fn info_body(s: &[u8], a: usize, e: usize, out: &mut [u8], o: usize) -> Part
     requires { ⌜ InContainer (now s) e a o ⌝ }
     ensures { λ r. ⌜ Inside (now (out .entry)) (now (out .exit)) o a e (ciaBody (now (s .entry))) r ⌝ }
 {
-    sequence(
-        s,
-        Sequence::Info,
-        5,
-        0x0106,
-        &[0x04, 0x0c, 0x80],
-        e,
-        a,
-        out,
-        o,
-    )
+    sequence(s, Sequence::Info, e, a, out, o)
 }
 
 fn due_info(s: &[u8], end: usize, at: usize, out: &mut [u8], o: usize) -> Part

@@ -1,2 +1,3 @@
 pub mod TagLaws
 pub mod SameLaws
+pub mod KeptLaws

@@ -10,8 +10,9 @@ use Rattle.rules.specs.declared.table.Class.{Class}
 use Rattle.rules.specs.declared.table.Class.the-variants.{Keys, Certificates, Containers, Authentications}
 use Rattle.rules.specs.declared.table.ObjectType.{ObjectType}
 use Rattle.rules.specs.declared.table.ObjectType.the-variants.{PrivateKey, Certificate, Password, Sealed}
-use Rattle.rules.specs.Parts.{keptOut}
-use Rattle.rules.specs.Tables.{ciaRows, commonRows, ruleRows, keyRows, certificateRows, authenticationRows, pathRows, privateRows, passwordRows, typeOf, classOf}
+use Rattle.rules.specs.declared.table.Sequence.{Sequence}
+use Rattle.rules.specs.declared.table.Sequence.the-variants.{Info, Common, Rule, Key, Certificate as CertificateAttributes, Authentication, PrivateKey as PrivateKeyAttributes, Password as PasswordAttributes}
+use Rattle.rules.specs.Tables.{ciaRows, commonRows, ruleRows, keyRows, certificateRows, authenticationRows, pathRows, privateRows, passwordRows, restOf, keptOf, typeOf, classOf}
 use Rattle.rules.specs.Rulings.{paired, flagged, quiet}
 use Rattle.rules.specs.Grammar as grammar
 use Rattle.rules.specs.Conditions.{condition}
@@ -19,6 +20,18 @@ use Rattle.rules.specs.ConditionRender.{kindsLook, condition-renders, co
 use Rattle.rules.specs.ConditionLaws.{condLook, plain-condition}
 use Rattle.rules.specs.Layout.{Layout, Single, _and_, fields, rest, ended, apart, with, due, told, maybe, atLeastOne, sealedAll, one, sealedOne, kept, orSealed, byClass, byType, alone, OfClass, classKinds, OfType, typeKinds}
 use Rattle.rules.specs.Checking.{BothOrNeither, pairs, flags}
+
+-- "Rest means sealed elements after the listed components": of a sequence whose components stand in a table
+abbrev pub restIn : Sequence → Layout
+restIn q = rest (restOf q) (keptOf q)
+
+-- "CIAInfo, SEQUENCE 30: .. rest 0106"
+unfoldable pub info : Layout
+info = fields ciaRows and restIn Info
+
+-- "CIAInfo's file has just one element: none, even before fill, is 5 at the file's end, before 11; a second is 3", "CIAInfo's fill, 0108"
+unfoldable pub cia : Layout
+cia = alone 0x0108 (due 0x30 info)
 
 -- "Path 30 { 04, 0 to 64 bytes, 0180; index 02? 0181; length 80? 0182 }, both to 65,535, both or neither"
 unfoldable pub path : Layout
@@ -44,7 +57,7 @@ plainCondition = conditionOf 8
 
 -- "A rule is 30 { accessMode 03 0125, condition, rest 012C }"
 unfoldable pub rule : Layout
-rule = fields ruleRows and plainCondition and rest 0x012c []
+rule = fields ruleRows and plainCondition and restIn Rule
 
 -- "rules 30?, at least one"
 unfoldable pub rules : Layout
@@ -52,13 +65,13 @@ rules = atLeastOne (due 0x30 rule)
 
 -- "Common: label .. userConsent ..; rules 30?, at least one; rest 012F"
 unfoldable pub common : Layout
-common = fields commonRows and maybe 0x30 rules and rest 0x012f (0x30 ∷ keptOut commonRows)
+common = fields commonRows and maybe 0x30 rules and restIn Common
 
 -- "Class, keys: .. rest 013F. Certificates: .. rest 014F. Authentication: .. rest 015F. Data containers: sealed contents, 0160, present even when empty"
 abbrev pub classes : Class → Layout
-classes Keys = fields keyRows and rest 0x013f (keptOut keyRows)
-classes Certificates = fields certificateRows and rest 0x014f (keptOut certificateRows)
-classes Authentications = fields authenticationRows and rest 0x015f (keptOut authenticationRows)
+classes Keys = fields keyRows and restIn Key
+classes Certificates = fields certificateRows and restIn CertificateAttributes
+classes Authentications = fields authenticationRows and restIn Authentication
 classes Containers = sealedAll 0x0160
 
 unfoldable pub class : Class → Layout
@@ -70,7 +83,7 @@ subclass = ended (one (sealedOne 0x0170))
 
 -- "Private key of tag 30, as 30 { Path, modulusLength 02 (to 65,535) 0183, rest 018F }"
 unfoldable pub privateKey : Layout
-privateKey = told 0x30 path and fields privateRows and rest 0x018f (keptOut privateRows)
+privateKey = told 0x30 path and fields privateRows and restIn PrivateKeyAttributes
 
 -- "Path where the first element has tag 30, otherwise that element sealed 0184"
 unfoldable pub certificateValue : Single
@@ -82,7 +95,7 @@ certificate = one certificateValue and rest 0x018f []
 
 -- "Password (authentication, tag 30), as 30 { pwdFlags .. lastPasswordChange 18? 0197, Path? 30, rest 019F }"; "8: pwdFlags bits 6 and 7 both set"
 unfoldable pub password : Layout
-password = with (fields passwordRows and maybe 0x30 path and rest 0x019f (0x30 ∷ keptOut passwordRows)) flagged (λ (((bits, _), _), _). bits / 64 % 4 ≡ 3 → ⊥) (flags (path .part))
+password = with (fields passwordRows and maybe 0x30 path and restIn PasswordAttributes) flagged (λ (((bits, _), _), _). bits / 64 % 4 ≡ 3 → ⊥) (flags (path .part))
 
 -- "Private key .. Certificate .. Password .. All others sealed, 01A0"
 abbrev pub types : ObjectType → Layout
@@ -120,14 +133,6 @@ types-fine Sealed = search tt
 pub contents-fine : (entry tag : ℕ) → contents entry tag .Fine
 unfolding insides
 contents-fine entry tag = search (tt, classes-fine, types-fine)
-
--- "CIAInfo, SEQUENCE 30: .. rest 0106"
-unfoldable pub info : Layout
-info = fields ciaRows and rest 0x0106 (keptOut ciaRows)
-
--- "CIAInfo's file has just one element: none, even before fill, is 5 at the file's end, before 11; a second is 3", "CIAInfo's fill, 0108"
-unfoldable pub cia : Layout
-cia = alone 0x0108 (due 0x30 info)
 
 is-30 : (t : ℕ) → eqb t 0x30 ≡ true → (t ≡ 0 → ⊥) × (t ≡ 0xff → ⊥)
 is-30 t e = let q = eqb-true t 0x30 e in ((λ z. omega arith), (λ z. omega arith))

@@ -1,7 +1,7 @@
 -- A table for each sequence, in the order of document 01: tag, book kind, form, need, bounds (of a number, or of a length). Names are Annex A's.
 use Prim.Native.Nat.{ℕ, _-_}
 use lib.ListN.{getD}
-use mathlib.Core.List.{List, [], _∷_}
+use mathlib.Core.List.{List, [], _∷_, _++_}
 use mathlib.Core.Bool.{_&&_}
 use lib.Dec.{eqb, leb}
 use Rattle.elements.specs.Choice.{choose}
@@ -16,7 +16,7 @@ use Rattle.rules.specs.declared.table.Sequence.{Sequence}
 use Rattle.rules.specs.declared.table.Sequence.the-variants.{Info, Common, Rule, Key, Certificate as CertificateAttributes, Authentication, PrivateKey as PrivateKeyAttributes, Password as PasswordAttributes, Path}
 use Rattle.rules.specs.declared.table.Sort.{Sort}
 use Rattle.rules.specs.declared.table.Sort.the-variants.{Always, Identifier, Not, And, Or, Other}
-use Rattle.rules.specs.Parts.{row}
+use Rattle.rules.specs.Parts.{row, keptOut}
 
 -- CIAInfo
 abbrev pub ciaRows : List Row
@@ -150,6 +150,34 @@ rowsOf Authentication = authenticationRows
 rowsOf PrivateKeyAttributes = privateRows
 rowsOf PasswordAttributes = passwordRows
 rowsOf Path = pathRows
+
+-- "rest 0106", "rest 012F" ..: the kind that a sequence's rest is kept as; a Path has none
+abbrev pub restOf : Sequence → ℕ
+restOf Info = 0x0106
+restOf Common = 0x012f
+restOf Rule = 0x012c
+restOf Key = 0x013f
+restOf CertificateAttributes = 0x014f
+restOf Authentication = 0x015f
+restOf PrivateKeyAttributes = 0x018f
+restOf PasswordAttributes = 0x019f
+restOf Path = 0
+
+-- "rules 30?", "Path? 30": the tags of components that may be absent and have no row
+abbrev pub beside : Sequence → List ℕ
+beside Info = []
+beside Common = 0x30 ∷ []
+beside Rule = []
+beside Key = []
+beside CertificateAttributes = []
+beside Authentication = []
+beside PrivateKeyAttributes = []
+beside PasswordAttributes = 0x30 ∷ []
+beside Path = []
+
+-- "the tag of an optional or defaulted component of that sequence may not occur there"
+abbrev pub keptOf : Sequence → List ℕ
+keptOf q = beside q ++ keptOut (rowsOf q)
 
 -- what stands behind a table's end
 abbrev pub noRow : Row

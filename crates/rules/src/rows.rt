@@ -5,349 +5,131 @@ use elements::Form;
 ghost use mathlib.Core.Path.{_≡_};
 ghost use Prim.Native.Nat.{_<_};
 ghost use lib.ListN.{length, getD};
-ghost use Rattle.rules.specs.Tables.{rowsOf, noRow};
+ghost use Rattle.rules.specs.Parts.{row};
+ghost use Rattle.rules.specs.Tables.{rowsOf, restOf, noRow};
+
+// A row of a table, in the order of the definitions: tag, kind, form, need, low, high.
+struct Line(u8, u16, Form, Need, u32, u32);
 
 // CIAInfo
-const INFO: [Row; 5] = [
+const INFO: [Line; 5] = [
     // version
-    Row {
-        tag: 0x02,
-        kind: 0x0101,
-        form: Form::Integer,
-        need: Need::Required,
-        low: 0,
-        high: 255,
-    },
+    Line(0x02, 0x0101, Form::Integer, Need::Required, 0, 255),
     // serialNumber
-    Row {
-        tag: 0x04,
-        kind: 0x0102,
-        form: Form::Octets,
-        need: Need::Optional,
-        low: 0,
-        high: 255,
-    },
+    Line(0x04, 0x0102, Form::Octets, Need::Optional, 0, 255),
     // manufacturerID
-    Row {
-        tag: 0x0c,
-        kind: 0x0103,
-        form: Form::Text,
-        need: Need::Optional,
-        low: 0,
-        high: 255,
-    },
+    Line(0x0c, 0x0103, Form::Text, Need::Optional, 0, 255),
     // label
-    Row {
-        tag: 0x80,
-        kind: 0x0104,
-        form: Form::Text,
-        need: Need::Optional,
-        low: 0,
-        high: 255,
-    },
+    Line(0x80, 0x0104, Form::Text, Need::Optional, 0, 255),
     // cardflags
-    Row {
-        tag: 0x03,
-        kind: 0x0105,
-        form: Form::Bits,
-        need: Need::Required,
-        low: 0,
-        high: 0,
-    },
+    Line(0x03, 0x0105, Form::Bits, Need::Required, 0, 0),
 ];
 
 // CommonObjectAttributes
-const COMMON: [Row; 4] = [
+const COMMON: [Line; 4] = [
     // label
-    Row {
-        tag: 0x0c,
-        kind: 0x0121,
-        form: Form::Text,
-        need: Need::Optional,
-        low: 0,
-        high: 255,
-    },
+    Line(0x0c, 0x0121, Form::Text, Need::Optional, 0, 255),
     // flags
-    Row {
-        tag: 0x03,
-        kind: 0x0122,
-        form: Form::Bits,
-        need: Need::Optional,
-        low: 0,
-        high: 0,
-    },
+    Line(0x03, 0x0122, Form::Bits, Need::Optional, 0, 0),
     // authId
-    Row {
-        tag: 0x04,
-        kind: 0x0123,
-        form: Form::Octets,
-        need: Need::Optional,
-        low: 0,
-        high: 255,
-    },
+    Line(0x04, 0x0123, Form::Octets, Need::Optional, 0, 255),
     // userConsent
-    Row {
-        tag: 0x02,
-        kind: 0x0124,
-        form: Form::Integer,
-        need: Need::Optional,
-        low: 1,
-        high: 32767,
-    },
+    Line(0x02, 0x0124, Form::Integer, Need::Optional, 1, 32767),
 ];
 
 // AccessControlRule
-const RULE: [Row; 1] = [
+const RULE: [Line; 1] = [
     // accessMode
-    Row {
-        tag: 0x03,
-        kind: 0x0125,
-        form: Form::Bits,
-        need: Need::Required,
-        low: 0,
-        high: 0,
-    },
+    Line(0x03, 0x0125, Form::Bits, Need::Required, 0, 0),
 ];
 
 // CommonKeyAttributes
-const KEY: [Row; 7] = [
+const KEY: [Line; 7] = [
     // iD
-    Row {
-        tag: 0x04,
-        kind: 0x0130,
-        form: Form::Octets,
-        need: Need::Required,
-        low: 0,
-        high: 255,
-    },
+    Line(0x04, 0x0130, Form::Octets, Need::Required, 0, 255),
     // usage
-    Row {
-        tag: 0x03,
-        kind: 0x0131,
-        form: Form::Bits,
-        need: Need::Required,
-        low: 0,
-        high: 0,
-    },
+    Line(0x03, 0x0131, Form::Bits, Need::Required, 0, 0),
     // native
-    Row {
-        tag: 0x01,
-        kind: 0x0132,
-        form: Form::Boolean,
-        need: Need::Default(1),
-        low: 0,
-        high: 0,
-    },
+    Line(0x01, 0x0132, Form::Boolean, Need::Default(1), 0, 0),
     // accessFlags
-    Row {
-        tag: 0x03,
-        kind: 0x0133,
-        form: Form::Bits,
-        need: Need::Optional,
-        low: 0,
-        high: 0,
-    },
+    Line(0x03, 0x0133, Form::Bits, Need::Optional, 0, 0),
     // keyReference
-    Row {
-        tag: 0x02,
-        kind: 0x0134,
-        form: Form::Integer,
-        need: Need::Optional,
-        low: 0,
-        high: 255,
-    },
+    Line(0x02, 0x0134, Form::Integer, Need::Optional, 0, 255),
     // startDate
-    Row {
-        tag: 0x18,
-        kind: 0x0135,
-        form: Form::Time,
-        need: Need::Optional,
-        low: 0,
-        high: 0,
-    },
+    Line(0x18, 0x0135, Form::Time, Need::Optional, 0, 0),
     // endDate
-    Row {
-        tag: 0x80,
-        kind: 0x0136,
-        form: Form::Time,
-        need: Need::Optional,
-        low: 0,
-        high: 0,
-    },
+    Line(0x80, 0x0136, Form::Time, Need::Optional, 0, 0),
 ];
 
 // CommonCertificateAttributes
-const CERTIFICATE: [Row; 2] = [
+const CERTIFICATE: [Line; 2] = [
     // iD
-    Row {
-        tag: 0x04,
-        kind: 0x0140,
-        form: Form::Octets,
-        need: Need::Required,
-        low: 0,
-        high: 255,
-    },
+    Line(0x04, 0x0140, Form::Octets, Need::Required, 0, 255),
     // authority
-    Row {
-        tag: 0x01,
-        kind: 0x0141,
-        form: Form::Boolean,
-        need: Need::Default(0),
-        low: 0,
-        high: 0,
-    },
+    Line(0x01, 0x0141, Form::Boolean, Need::Default(0), 0, 0),
 ];
 
 // CommonAuthenticationObjectAttributes
-const AUTHENTICATION: [Row; 3] = [
+const AUTHENTICATION: [Line; 3] = [
     // authId
-    Row {
-        tag: 0x04,
-        kind: 0x0150,
-        form: Form::Octets,
-        need: Need::Optional,
-        low: 0,
-        high: 255,
-    },
+    Line(0x04, 0x0150, Form::Octets, Need::Optional, 0, 255),
     // authReference
-    Row {
-        tag: 0x02,
-        kind: 0x0151,
-        form: Form::Integer,
-        need: Need::Optional,
-        low: 0,
-        high: 255,
-    },
+    Line(0x02, 0x0151, Form::Integer, Need::Optional, 0, 255),
     // seIdentifier
-    Row {
-        tag: 0x80,
-        kind: 0x0152,
-        form: Form::Integer,
-        need: Need::Optional,
-        low: 0,
-        high: 255,
-    },
+    Line(0x80, 0x0152, Form::Integer, Need::Optional, 0, 255),
 ];
 
 // PrivateRSAKeyAttributes
-const PRIVATE_KEY: [Row; 1] = [
+const PRIVATE_KEY: [Line; 1] = [
     // modulusLength
-    Row {
-        tag: 0x02,
-        kind: 0x0183,
-        form: Form::Integer,
-        need: Need::Required,
-        low: 0,
-        high: 65535,
-    },
+    Line(0x02, 0x0183, Form::Integer, Need::Required, 0, 65535),
 ];
 
 // PasswordAttributes
-const PASSWORD: [Row; 8] = [
+const PASSWORD: [Line; 8] = [
     // pwdFlags
-    Row {
-        tag: 0x03,
-        kind: 0x0190,
-        form: Form::Bits,
-        need: Need::Required,
-        low: 0,
-        high: 0,
-    },
+    Line(0x03, 0x0190, Form::Bits, Need::Required, 0, 0),
     // pwdType
-    Row {
-        tag: 0x0a,
-        kind: 0x0191,
-        form: Form::Integer,
-        need: Need::Required,
-        low: 0,
-        high: 4,
-    },
+    Line(0x0a, 0x0191, Form::Integer, Need::Required, 0, 4),
     // minLength
-    Row {
-        tag: 0x02,
-        kind: 0x0192,
-        form: Form::Integer,
-        need: Need::Required,
-        low: 4,
-        high: 8,
-    },
+    Line(0x02, 0x0192, Form::Integer, Need::Required, 4, 8),
     // storedLength
-    Row {
-        tag: 0x02,
-        kind: 0x0193,
-        form: Form::Integer,
-        need: Need::Required,
-        low: 0,
-        high: 64,
-    },
+    Line(0x02, 0x0193, Form::Integer, Need::Required, 0, 64),
     // maxLength
-    Row {
-        tag: 0x02,
-        kind: 0x0194,
-        form: Form::Integer,
-        need: Need::Optional,
-        low: 0,
-        high: 65535,
-    },
+    Line(0x02, 0x0194, Form::Integer, Need::Optional, 0, 65535),
     // pwdReference
-    Row {
-        tag: 0x80,
-        kind: 0x0195,
-        form: Form::Integer,
-        need: Need::Default(0),
-        low: 0,
-        high: 255,
-    },
+    Line(0x80, 0x0195, Form::Integer, Need::Default(0), 0, 255),
     // padChar
-    Row {
-        tag: 0x04,
-        kind: 0x0196,
-        form: Form::Octets,
-        need: Need::Optional,
-        low: 1,
-        high: 1,
-    },
+    Line(0x04, 0x0196, Form::Octets, Need::Optional, 1, 1),
     // lastPasswordChange
-    Row {
-        tag: 0x18,
-        kind: 0x0197,
-        form: Form::Time,
-        need: Need::Optional,
-        low: 0,
-        high: 0,
-    },
+    Line(0x18, 0x0197, Form::Time, Need::Optional, 0, 0),
 ];
 
 // Path
-const PATH: [Row; 3] = [
+const PATH: [Line; 3] = [
     // efidOrPath
-    Row {
-        tag: 0x04,
-        kind: 0x0180,
-        form: Form::Octets,
-        need: Need::Required,
-        low: 0,
-        high: 64,
-    },
+    Line(0x04, 0x0180, Form::Octets, Need::Required, 0, 64),
     // index
-    Row {
-        tag: 0x02,
-        kind: 0x0181,
-        form: Form::Integer,
-        need: Need::Optional,
-        low: 0,
-        high: 65535,
-    },
+    Line(0x02, 0x0181, Form::Integer, Need::Optional, 0, 65535),
     // length
-    Row {
-        tag: 0x80,
-        kind: 0x0182,
-        form: Form::Integer,
-        need: Need::Optional,
-        low: 0,
-        high: 65535,
-    },
+    Line(0x80, 0x0182, Form::Integer, Need::Optional, 0, 65535),
 ];
+
+// A line as a row.
+fn row(l: Line) -> Row
+    ensures { λ r. ⌜ r ≡ row (l .0) (l .1) (l .2) (l .3) (l .4) (l .5) ⌝ }
+{
+    let form = l.2;
+    let need = l.3;
+    Row {
+        tag: l.0,
+        kind: l.1,
+        form: form,
+        need: need,
+        low: l.4,
+        high: l.5,
+    }
+}
 
 // A component of a sequence.
 pub fn row_of(q: Sequence, i: usize) -> Row
@@ -356,31 +138,65 @@ pub fn row_of(q: Sequence, i: usize) -> Row
 {
     match q {
         Sequence::Info => {
-            return INFO[i];
+            return row(INFO[i]);
         }
         Sequence::Common => {
-            return COMMON[i];
+            return row(COMMON[i]);
         }
         Sequence::Rule => {
-            return RULE[i];
+            return row(RULE[i]);
         }
         Sequence::Key => {
-            return KEY[i];
+            return row(KEY[i]);
         }
         Sequence::Certificate => {
-            return CERTIFICATE[i];
+            return row(CERTIFICATE[i]);
         }
         Sequence::Authentication => {
-            return AUTHENTICATION[i];
+            return row(AUTHENTICATION[i]);
         }
         Sequence::PrivateKey => {
-            return PRIVATE_KEY[i];
+            return row(PRIVATE_KEY[i]);
         }
         Sequence::Password => {
-            return PASSWORD[i];
+            return row(PASSWORD[i]);
         }
         Sequence::Path => {
-            return PATH[i];
+            return row(PATH[i]);
         }
+    }
+}
+
+// How many components a sequence has.
+pub fn count_of(q: Sequence) -> usize
+    ensures { λ r. ⌜ r ≡ length (rowsOf q) ⌝ }
+{
+    match q {
+        Sequence::Info => INFO.len(),
+        Sequence::Common => COMMON.len(),
+        Sequence::Rule => RULE.len(),
+        Sequence::Key => KEY.len(),
+        Sequence::Certificate => CERTIFICATE.len(),
+        Sequence::Authentication => AUTHENTICATION.len(),
+        Sequence::PrivateKey => PRIVATE_KEY.len(),
+        Sequence::Password => PASSWORD.len(),
+        Sequence::Path => PATH.len(),
+    }
+}
+
+// The kind that a sequence's rest is kept as; a Path has none.
+pub fn rest_of(q: Sequence) -> u16
+    ensures { λ r. ⌜ r ≡ restOf q ⌝ }
+{
+    match q {
+        Sequence::Info => 0x0106,
+        Sequence::Common => 0x012f,
+        Sequence::Rule => 0x012c,
+        Sequence::Key => 0x013f,
+        Sequence::Certificate => 0x014f,
+        Sequence::Authentication => 0x015f,
+        Sequence::PrivateKey => 0x018f,
+        Sequence::Password => 0x019f,
+        Sequence::Path => 0,
     }
 }

@@ -7,13 +7,10 @@ pub class-body-spec : {M : Type 1} → statement M
 class-body-spec =
     tie.close (tie.spec
     (λ c. search needs)  -- enum-told
-    (λ c. search needs)  -- slice-aggregate-sequence
     (λ c κs. search needs)  -- sequence-requires
     (λ c. search needs)  -- enum-told-2
-    (λ c. search needs)  -- slice-aggregate-sequence-2
     (λ c κs. search needs)  -- sequence-requires-2
     (λ c. search needs)  -- enum-told-3
-    (λ c. search needs)  -- slice-aggregate-sequence-3
     (λ c κs. search needs)  -- sequence-requires-3
     (λ c. search needs)  -- enum-told-4
     (λ c κs. search needs)  -- container-requires

@@ -1,6 +1,5 @@
 use borrow.Author.Needs.{needs}
 use Rattle.objects.specs.DidLaws.{did-high, did-small, did-fails, did-then}
-use Rattle.objects.proofs.ClassLaws.{whole-rows}
 use Rattle.objects.proofs.class.sequence.Statement.{statement}
 use Rattle.objects.proofs.class.sequence.Tie as tie
 
@@ -10,8 +9,8 @@ sequence-spec =
     (λ c κs. search needs)  -- components-requires
     (λ c. search needs)  -- enum-known-f
     (λ c. search needs)  -- enum-known-n
-    (λ c κs. search (did-high, did-small, did-fails, did-then, whole-rows, needs))  -- rest-requires
+    (λ c κs. search (did-high, did-small, did-fails, did-then, needs))  -- rest-requires
     (λ c. search needs)  -- same-length
-    (λ c. search (did-high, did-small, did-fails, did-then, whole-rows, needs))  -- returns
+    (λ c. search (did-high, did-small, did-fails, did-then, needs))  -- returns
     (λ c. search needs)  -- same-length-2
-    (λ c. search (did-high, did-small, did-fails, did-then, whole-rows, needs)))  -- returns-2
+    (λ c. search (did-high, did-small, did-fails, did-then, needs)))  -- returns-2

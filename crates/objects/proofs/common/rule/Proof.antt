@@ -13,11 +13,10 @@ rule-spec =
     (λ c κs. search (did-high, did-small, needs))  -- condition-requires
     (λ c. search needs)  -- enum-known-f-2
     (λ c. search needs)  -- enum-known-m
-    (λ c. search needs)  -- slice-aggregate-rest
-    (λ c κs. (did-high (c .before .before .before .before .before .before .before .condition .ensures .0) (c .before .before .before .m .given .1), c .before .before .before .before .before .before .before .before .before .before .before .before .before .before .before .before .before .before .pre .1, c .before .before .before .before .before .before .before .before .before .before .before .before .before .before .before .before .before .before .pre .2, did-small (c .before .before .before .before .before .before .before .condition .ensures .0) (c .before .before .before .m .given .1)))  -- rest-requires
+    (λ c κs. (did-high (c .before .before .before .before .before .before .condition .ensures .0) (c .before .before .m .given .1), c .before .before .before .before .before .before .before .before .before .before .before .before .before .before .before .before .before .pre .1, c .before .before .before .before .before .before .before .before .before .before .before .before .before .before .before .before .before .pre .2, did-small (c .before .before .before .before .before .before .condition .ensures .0) (c .before .before .m .given .1)))  -- rest-in-requires
     (λ c. search needs)  -- same-length
     (λ c. rule-first _ (c .before .before .before .before .before .components .ensures) (c .before .f .given .1))  -- returns
     (λ c. search needs)  -- same-length-2
     (λ c. rule-second _ (c .before .before .before .before .before .before .before .before .before .before .before .before .components .ensures) (c .before .before .before .before .before .before .before .before .n .given .1) (c .before .before .before .before .before .condition .ensures .0) (c .before .f2 .given .1))  -- returns-2
     (λ c. search needs)  -- same-length-3
-    (λ c. rule-third _ (c .before .before .before .before .before .before .before .before .before .before .before .before .before .before .before .before .before .components .ensures) (c .before .before .before .before .before .before .before .before .before .before .before .before .before .n .given .1) (c .before .before .before .before .before .before .before .before .before .before .condition .ensures .0) (c .before .before .before .before .before .before .m .given .1) (c .before .before .rest .ensures)))  -- returns-3
+    (λ c. rule-third _ (c .before .before .before .before .before .before .before .before .before .before .before .before .before .before .before .before .components .ensures) (c .before .before .before .before .before .before .before .before .before .before .before .before .n .given .1) (c .before .before .before .before .before .before .before .before .before .condition .ensures .0) (c .before .before .before .before .before .m .given .1) (c .before .before .rest-in .ensures)))  -- returns-3

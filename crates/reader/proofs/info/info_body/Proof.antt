@@ -6,7 +6,6 @@ use Rattle.reader.proofs.info.info_body.Tie as tie
 pub info-body-spec : {M : Type 1} → statement M
 info-body-spec =
     tie.close (tie.spec
-    (λ c. search needs)  -- slice-aggregate-sequence
     (λ c κs. search needs)  -- sequence-requires
     (λ c. search needs)  -- same-length
     (λ c. search (info-inside, needs)))  -- returns

@@ -1,6 +1,6 @@
 use Rattle.rules.proofs.TagLaws.{type-other, type-key, type-password, type-certificate, type-below, type-above}
-use Rattle.rules.proofs.kind.type_of.Statement.{statement}
-use Rattle.rules.proofs.kind.type_of.Tie as tie
+use Rattle.rules.proofs.types.type_of.Statement.{statement}
+use Rattle.rules.proofs.types.type_of.Tie as tie
 
 pub type-of-spec : {M : Type 1} → statement M
 type-of-spec =
