@@ -1,4 +1,5 @@
 pub mod Did
+pub mod Composed
 pub mod DidLaws
 pub mod ComponentsLaws
 pub mod RepeatLaws

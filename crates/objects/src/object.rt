@@ -13,11 +13,8 @@ use rules::type_of;
 ghost use mathlib.Core.Path.{_≡_};
 ghost use mathlib.Core.Bool.{_||_, _&&_};
 ghost use lib.Dec.{eqb, leb};
-ghost use Rattle.rules.specs.declared.table.Need.the-variants.{Required, Optional};
-ghost use Rattle.rules.specs.Reading.{_then_};
-ghost use Rattle.rules.specs.Parts.{component};
-ghost use Rattle.rules.specs.Tables.{classOf};
-ghost use Rattle.rules.specs.Objects.{common, classBody, subclass, contents, objectBody, object};
+ghost use Rattle.rules.specs.Objects.{contents, objectBody, object};
+ghost use Rattle.objects.specs.Composed.{attributes};
 ghost use Rattle.objects.specs.Did.{Did, Forward, InElement, InContainer};
 
 // "Object: tag 30 or A0 to A7".
@@ -34,7 +31,7 @@ fn is_object(t: u8) -> bool
 // Common, class and subclass.
 fn attributes(s: &[u8], entry: u8, end: usize, at: usize, out: &mut [u8], o: usize) -> Part
     requires { ⌜ InContainer (now s) end at o ⌝ }
-    ensures { λ r. ⌜ Did (now (out .entry)) (now (out .exit)) o at end ((component (now (s .entry)) 0x30 Required (common (now (s .entry))) then component (now (s .entry)) 0x30 Required (classBody (now (s .entry)) (classOf entry)) then component (now (s .entry)) 0xa0 Optional (subclass (now (s .entry)))) end at) r ⌝ }
+    ensures { λ r. ⌜ Did (now (out .entry)) (now (out .exit)) o at end (attributes (now (s .entry)) entry end at) r ⌝ }
 {
     match due_common(s, end, at, out, o) {
         Part::Fails(f, p) => Part::Fails(f, p),

@@ -17,14 +17,12 @@ use rules::Need;
 use rules::ObjectType;
 use rules::Sequence;
 ghost use mathlib.Core.Path.{_≡_};
-ghost use mathlib.Core.List.{_∷_};
 ghost use Prim.Native.Nat.{_≤_};
 ghost use lib.ListN.{length};
 ghost use Rattle.rules.specs.declared.table.Need.the-variants.{Required, Optional};
-ghost use Rattle.rules.specs.Reading.{_then_};
-ghost use Rattle.rules.specs.Parts.{component, components, rest, keptOut, element};
-ghost use Rattle.rules.specs.Tables.{passwordRows, typeOf};
+ghost use Rattle.rules.specs.Parts.{component, element};
 ghost use Rattle.rules.specs.Objects.{path, privateKey, certificateValue, certificate, password, typePart, typeBody};
+ghost use Rattle.objects.specs.Composed.{passwordParts};
 ghost use Rattle.objects.specs.Did.{Did, Inside, bothFlags, InElement, InContainer};
 
 // A Path where it is due, or may stand.
@@ -94,7 +92,7 @@ fn both_flags(s: &[u8], a: usize, e: usize) -> bool
 // The components of password attributes, their Path and their rest.
 fn password_parts(s: &[u8], a: usize, e: usize, out: &mut [u8], o: usize) -> Part
     requires { ⌜ InContainer (now s) e a o ⌝ }
-    ensures { λ r. ⌜ Did (now (out .entry)) (now (out .exit)) o a e ((components (now (s .entry)) passwordRows then component (now (s .entry)) 0x30 Optional (path (now (s .entry))) then rest (now (s .entry)) 0x019f (0x30 ∷ keptOut passwordRows)) e a) r ⌝ }
+    ensures { λ r. ⌜ Did (now (out .entry)) (now (out .exit)) o a e (passwordParts (now (s .entry)) e a) r ⌝ }
 {
     match components(s, Sequence::Password, e, a, out, o) {
         Part::Fails(f, p) => Part::Fails(f, p),

@@ -1,7 +1,7 @@
 -- What the code does of a file's parts: its fill, its objects with their places, EF.OD's entries.
 use Prim.Native.Nat.{ℕ, _-_, _*_, _≤_, _<_}
 use mathlib.Core.Path.{_≡_}
-use mathlib.Core.List.{List, []}
+use mathlib.Core.List.{List, [], _∷_}
 use mathlib.Core.Bool.{Bool, true, false}
 use lib.ListN.{length}
 use Rattle.elements.specs.declared.fault.Fault.{Fault}
@@ -11,9 +11,9 @@ use Rattle.objects.specs.declared.part.Many.{Many}
 use Rattle.objects.specs.declared.part.Many.the-variants as many
 use Rattle.reader.specs.declared.answer.Entries.{Entries}
 use Rattle.reader.specs.declared.answer.Entries.the-variants as entries
-use Rattle.rules.specs.Reading.{Rec, Res, took, fails}
-use Rattle.rules.specs.Parts.{toEnd}
-use Rattle.rules.specs.Files.{toFill, filled, namesOf, paths, firstAgain, entryPlace}
+use Rattle.rules.specs.Reading.{Rec, rec, Res, took, fails, also, Reader, _then_}
+use Rattle.rules.specs.Parts.{element, ended, repeat, toEnd}
+use Rattle.rules.specs.Files.{toFill, filled, objects, entryInside, entryBody, namesOf, paths, firstAgain, entryPlace}
 use Rattle.rules.specs.Book.{encode}
 
 -- r is the first place from `at` on that differs from b, or the end
@@ -47,3 +47,24 @@ pub record ForwardMany (at : ℕ) (r : Many) : Type 0 where
 abbrev pub moreOf : List ℕ → Bool → ℕ → ℕ → Bool
 moreOf s true end at = toFill s end at
 moreOf s false end at = toEnd end at
+
+module _ (s : List ℕ) where
+  -- objects in EF.OD itself, behind the record of their entry
+  abbrev pub inlined : ℕ → ℕ → Reader
+  inlined entry k end at = also (rec 0x0110 (entry ∷ 1 ∷ []) ∷ []) [] (objects s toEnd entry k end at)
+
+  -- the contents of an entry of a class
+  abbrev pub knownEntry : ℕ → ℕ → Reader
+  knownEntry entry k = element s (entryInside s entry k) then ended s
+
+  -- an entry, after k objects
+  abbrev pub entryAt : ℕ → Reader
+  entryAt k = element s (entryBody s k)
+
+  -- EF.OD's entries, up to its fill
+  abbrev pub entriesAt : Reader
+  entriesAt end at = repeat (toFill s) entryAt (end - at) 0 end at
+
+  -- the objects of a directory file behind their 0118
+  abbrev pub filed : ℕ → ℕ → Reader
+  filed entry k end at = also (rec 0x0118 [] ∷ []) [] (objects s (toFill s) entry k end at)

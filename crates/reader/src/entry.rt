@@ -20,16 +20,16 @@ use rules::Need;
 ghost use mathlib.Core.Path.{_≡_};
 ghost use mathlib.Core.Bool.{_&&_};
 ghost use mathlib.Core.List.{[], _∷_};
-ghost use Prim.Native.Nat.{_+_, _-_, _*_, _^_, _≤_, _<_};
+ghost use Prim.Native.Nat.{_+_, _*_, _^_, _≤_, _<_};
 ghost use lib.ListN.{length};
 ghost use lib.Dec.{leb};
 ghost use Rattle.elements.specs.Put.{Put};
 ghost use Rattle.rules.specs.declared.table.Need.the-variants.{Required};
-ghost use Rattle.rules.specs.Reading.{_then_, rec, also};
-ghost use Rattle.rules.specs.Parts.{component, element, ended, repeat, toEnd, sealed};
-ghost use Rattle.rules.specs.Files.{toFill, objects, namedPath, entryInside, entryBody, od, directory};
+ghost use Rattle.rules.specs.Reading.{_then_};
+ghost use Rattle.rules.specs.Parts.{component, element, ended, sealed};
+ghost use Rattle.rules.specs.Files.{objects, namedPath, entryInside, entryBody, od, directory};
 ghost use Rattle.objects.specs.Did.{Did, InElement, InContainer};
-ghost use Rattle.reader.specs.Filing.{DidObjects, DidEntries, ForwardMany, moreOf};
+ghost use Rattle.reader.specs.Filing.{DidObjects, DidEntries, ForwardMany, moreOf, inlined, knownEntry, entryAt, entriesAt, filed};
 
 // Stores an object's place where there is room for it.
 fn put_place(marks: &mut [u32], k: usize, v: u32) -> usize
@@ -136,7 +136,7 @@ fn inline(
     marks: &mut [u32],
 ) -> Many
     requires { ⌜ (k ≤ 128) × InElement (now s) at a e o ⌝ }
-    ensures { λ r. ⌜ DidObjects (now (out .entry)) (now (out .exit)) (now (marks .entry)) (now (marks .exit)) o a e k (also (rec 0x0110 (entry ∷ 1 ∷ []) ∷ []) [] (objects (now (s .entry)) toEnd entry k e a)) r ⌝ }
+    ensures { λ r. ⌜ DidObjects (now (out .entry)) (now (out .exit)) (now (marks .entry)) (now (marks .exit)) o a e k (inlined (now (s .entry)) entry k e a) r ⌝ }
 {
     let q = put_two(out, o, 0x0110, entry, 1);
     objects(s, entry, false, k, e, a, out, q, marks)
@@ -189,7 +189,7 @@ fn known_entry(
     marks: &mut [u32],
 ) -> Many
     requires { ⌜ (k ≤ 128) × InContainer (now s) e a o ⌝ }
-    ensures { λ r. ⌜ DidObjects (now (out .entry)) (now (out .exit)) (now (marks .entry)) (now (marks .exit)) o a e k ((element (now (s .entry)) (entryInside (now (s .entry)) entry k) then ended (now (s .entry))) e a) r ⌝ }
+    ensures { λ r. ⌜ DidObjects (now (out .entry)) (now (out .exit)) (now (marks .entry)) (now (marks .exit)) o a e k (knownEntry (now (s .entry)) entry k e a) r ⌝ }
 {
     match entry_inside(s, entry, k, e, a, out, o, marks) {
         Many::Fails(f, p) => Many::Fails(f, p),
@@ -273,7 +273,7 @@ fn entry(
     marks: &mut [u32],
 ) -> Many
     requires { ⌜ (k ≤ 128) × InContainer (now s) end at o ⌝ }
-    ensures { λ r. ⌜ DidObjects (now (out .entry)) (now (out .exit)) (now (marks .entry)) (now (marks .exit)) o at end k (element (now (s .entry)) (entryBody (now (s .entry)) k) end at) r × ForwardMany at r ⌝ }
+    ensures { λ r. ⌜ DidObjects (now (out .entry)) (now (out .exit)) (now (marks .entry)) (now (marks .exit)) o at end k (entryAt (now (s .entry)) k end at) r × ForwardMany at r ⌝ }
 {
     match header(s, at, end) {
         Head::No(f, p) => Many::Fails(f, p),
@@ -284,7 +284,7 @@ fn entry(
 // EF.OD's entries, up to its fill.
 fn entries(s: &[u8], end: usize, at: usize, out: &mut [u8], o: usize, marks: &mut [u32]) -> Entries
     requires { ⌜ InContainer (now s) end at o × (o + 3 ≤ 4 * at) × (131072 ≤ length (now out)) ⌝ }
-    ensures { λ r. ⌜ DidEntries (now (s .entry)) (now (out .entry)) (now (out .exit)) (now (marks .entry)) (now (marks .exit)) o at end (repeat (toFill (now (s .entry))) (λ k. element (now (s .entry)) (entryBody (now (s .entry)) k)) (end - at) 0 end at) r ⌝ }
+    ensures { λ r. ⌜ DidEntries (now (s .entry)) (now (out .entry)) (now (out .exit)) (now (marks .entry)) (now (marks .exit)) o at end (entriesAt (now (s .entry)) end at) r ⌝ }
 {
     let mut k = 0;
     let mut n = at;
@@ -339,7 +339,7 @@ fn file_objects(
     marks: &mut [u32],
 ) -> Many
     requires { ⌜ (k ≤ 128) × (o + 4 ≤ 8 * at) × InContainer (now s) end at o ⌝ }
-    ensures { λ r. ⌜ DidObjects (now (out .entry)) (now (out .exit)) (now (marks .entry)) (now (marks .exit)) o at end k (also (rec 0x0118 [] ∷ []) [] (objects (now (s .entry)) (toFill (now (s .entry))) entry k end at)) r ⌝ }
+    ensures { λ r. ⌜ DidObjects (now (out .entry)) (now (out .exit)) (now (marks .entry)) (now (marks .exit)) o at end k (filed (now (s .entry)) entry k end at) r ⌝ }
 {
     let q = put_bare(out, o, 0x0118);
     objects(s, entry, true, k, end, at, out, q, marks)
