@@ -1,10 +1,12 @@
 -- Where in a card's book its paths, its own identifiers and its conditions' identifiers stand.
-use Prim.Native.Nat.{ℕ, zero, suc}
+use Prim.Native.Nat.{ℕ, zero, suc, _≤_}
 use mathlib.Core.List.{List, [], _∷_, _++_, append-nil, append-assoc, List·Memᴰ}
 use mathlib.Core.Bool.{Bool, true, false, not}
 use mathlib.Core.Logic.{_↔_, inl, inr}
 use mathlib.Core.Option.{Option, none, some}
 use mathlib.Core.Path.{_≡_, refl, sym, ap, _∙_}
+use native.Mathlib.Omega.{arith}
+use lib.ListN.{length}
 use lib.Dec.{eqb, T}
 use Rattle.elements.specs.Choice.{choose}
 use Rattle.elements.specs.Sealed.{among}
@@ -14,7 +16,7 @@ use Rattle.rules.specs.declared.table.ObjectType.{ObjectType}
 use Rattle.rules.specs.declared.table.Sort.the-variants.{Always, Identifier, Not, And, Or, Other}
 use Rattle.rules.specs.declared.table.Row.{Row}
 use Rattle.rules.specs.Reading.{Rec, rec}
-use Rattle.rules.specs.Tables.{classOf, typeOf, kindOf, ownIdRow, authenticationRows, commonRows, ruleRows}
+use Rattle.rules.specs.Tables.{classOf, typeOf, kindOf, certificateIdRow, ownIdRow, keyRows, certificateRows, authenticationRows, commonRows, ruleRows}
 use Rattle.rules.specs.Parts.{keptOut}
 use Rattle.rules.specs.Grammar.{field, fields, optional, tagged, fill, flat}
 use Rattle.rules.specs.Kinds.{kindsOf, fields-only}
@@ -24,7 +26,7 @@ use Rattle.rules.specs.Layouts as layouts
 use Rattle.rules.specs.Entries as entries
 use Rattle.rules.specs.Files as files
 use Rattle.rules.specs.Files.{Name}
-use Rattle.rules.specs.Pays.{pays, pays-append, pays-flat, pays-none, lacks, in-pays}
+use Rattle.rules.specs.Pays.{pays, pays-append, pays-flat, pays-none, lacks, times, Few, one-few, and-few, rest-few, fields-few, in-pays}
 use Rattle.cards.specs.Card as card
 use Rattle.cards.specs.Card.{Object, recordsOf, identifiersIn}
 
@@ -78,6 +80,31 @@ common-own x = lacks (ownIdRow .kind) layouts.common tt x
 -- an object's own identifiers are the payloads of its 0150
 pub own-pays : (o : Object) → pays (ownIdRow .kind) (recordsOf o) ≡ card.ownId o
 own-pays (t, x) = object-pays (ownIdRow .kind) own-elsewhere (λ _. []) card.ownIdIn common-own class-own t x
+
+-- ---- a kind that stands once in the table of a class, and nowhere else, stands in an object at most once
+abbrev Once : ℕ → Type 0
+Once k = Elsewhere k × T (not (among k (layouts.common .all))) × ((c : Class) → times k (layouts.class c .all) ≤ 1)
+
+class-few : (k : ℕ) (c : Class) (x : layouts.class c .part .Of) → Few k (layouts.class c .all) (layouts.class c .part .book x)
+unfolding layouts.class
+class-few k Keys (x, rest) = and-few {l = kindsOf keyRows} (fields-few k keyRows x) (rest-few k 0x013f rest)
+class-few k Certificates (x, rest) = and-few {l = kindsOf certificateRows} (fields-few k certificateRows x) (rest-few k 0x014f rest)
+class-few k Authentications (x, rest) = and-few {l = kindsOf authenticationRows} (fields-few k authenticationRows x) (rest-few k 0x015f rest)
+class-few k Containers x = one-few k 0x0160 x
+
+once : (k : ℕ) → Once k → (o : Object) → length (pays k (recordsOf o)) ≤ 1
+once k (e, lacking, few) (t, x) =
+    let y = card.classPart t x in
+    rw (object-pays k e (λ _. []) (λ c x. pays k (layouts.class c .part .book x)) (lacks k layouts.common lacking) (λ c x. refl) t x) (omega (arith, class-few k (classOf t) y .most, few (classOf t)))
+
+-- a certificate's identifier, 0140, and an authentication object's own, 0150
+pub certificate-once : (o : Object) → length (pays (certificateIdRow .kind) (recordsOf o)) ≤ 1
+unfolding layouts.insides
+certificate-once = once (certificateIdRow .kind) ((refl, tt, (λ x. tt)), tt, (λ c. elim c [ Keys ↦ omega arith | Certificates ↦ omega arith | Authentications ↦ omega arith | Containers ↦ omega arith ]))
+
+pub own-once : (o : Object) → length (pays (ownIdRow .kind) (recordsOf o)) ≤ 1
+unfolding layouts.insides
+own-once = once (ownIdRow .kind) (own-elsewhere, tt, (λ c. elim c [ Keys ↦ omega arith | Certificates ↦ omega arith | Authentications ↦ omega arith | Containers ↦ omega arith ]))
 
 -- ---- 0127 stands in the rules alone
 id-elsewhere : Elsewhere (kindOf Identifier)

@@ -15,8 +15,8 @@ use Rattle.elements.specs.Bits.{bits, bitsOf, weigh, reversed}
 use Rattle.elements.specs.Time.{time, stated, digits, two, dated, clocked, daysOf, leap}
 use Rattle.elements.specs.Values.{value, element}
 use Rattle.rules.specs.Book.{records, recordsOf}
-use Rattle.links.specs.Links.{heldFrom, objectsFrom, states, answering, idKind, firstOf, bears, answers, stated as statedRows, objectRows, linksFrom, links, listed}
-use Rattle.rules.specs.Computing.{Seen, readsCondition, book, dump, refusal, answered, reading as dumped}
+use Rattle.links.specs.Links.{heldFrom, objectsFrom, states, answering, idKind, firstOf, bears, answers, recordRows, objectRows, linksFrom, links, listed}
+use Rattle.rules.specs.Computing.{Seen, readsCondition, book, dump, refusal, answered, reading}
 use Rattle.rules.specs.Examples.{shared}
 
 -- an answer as document 01 gives it
@@ -43,15 +43,15 @@ shown (refusal n p) = refused n p
 
 -- the links of a dump's book
 unfoldable linked : Seen → Answer
-unfolding records recordsOf heldFrom objectsFrom states answering idKind firstOf bears answers statedRows objectRows linksFrom links listed
+unfolding records recordsOf heldFrom objectsFrom states answering idKind firstOf bears answers recordRows objectRows linksFrom links listed
 linked (book b) = rows (listed (links (records b)))
 linked (dump d) = accepted (length d)
 linked (refusal n p) = refused n p
 
 -- reading one element of a tag and a form at the start of the bytes
-unfoldable reading : Form → ℕ → List ℕ → Answer
+unfoldable elementRead : Form → ℕ → List ℕ → Answer
 unfolding element value header highTag further lengthAt long1 long2 long2Of fitted integer whole padded magnitude bare big bits bitsOf weigh reversed time stated digits two dated clocked daysOf leap
-reading f tag s = answer (element f tag s 0 (length s))
+elementRead f tag s = answer (element f tag s 0 (length s))
 
 pub data Name : Type 0 where
   -- the number behind the P
@@ -68,26 +68,26 @@ abbrev case : Name → Answer → Answer → Case
 case n g w = record { name = n; got = g; want = w }
 
 pub table : List Case
-unfolding reading answered linked
+unfolding elementRead answered linked
 table =
-    case (P 1) (reading Bits 0x03 (0x03 ∷ 0x02 ∷ 0x07 ∷ 0x80 ∷ [])) (is 1 4) ∷
-    case (P 2) (reading Bits 0x03 (0x03 ∷ 0x03 ∷ 0x06 ∷ 0x20 ∷ 0x40 ∷ [])) (is 516 5) ∷
-    case (P 3) (reading Bits 0x03 (0x03 ∷ 0x02 ∷ 0x03 ∷ 0x98 ∷ [])) (is 25 4) ∷
-    case (P 4) (reading Bits 0x03 (0x03 ∷ 0x02 ∷ 0x05 ∷ 0x80 ∷ [])) (refused 6 0) ∷
-    case (P 5) (reading Integer 0x02 (0x02 ∷ 0x02 ∷ 0x00 ∷ 0xff ∷ [])) (is 255 4) ∷
-    case (P 6) (reading Integer 0x02 (0x02 ∷ 0x01 ∷ 0x00 ∷ 0xff ∷ [])) (is 0 3) ∷
-    case (P 7) (reading Integer 0x02 (0x02 ∷ 0x02 ∷ 0x00 ∷ 0x7f ∷ [])) (refused 6 0) ∷
+    case (P 1) (elementRead Bits 0x03 (0x03 ∷ 0x02 ∷ 0x07 ∷ 0x80 ∷ [])) (is 1 4) ∷
+    case (P 2) (elementRead Bits 0x03 (0x03 ∷ 0x03 ∷ 0x06 ∷ 0x20 ∷ 0x40 ∷ [])) (is 516 5) ∷
+    case (P 3) (elementRead Bits 0x03 (0x03 ∷ 0x02 ∷ 0x03 ∷ 0x98 ∷ [])) (is 25 4) ∷
+    case (P 4) (elementRead Bits 0x03 (0x03 ∷ 0x02 ∷ 0x05 ∷ 0x80 ∷ [])) (refused 6 0) ∷
+    case (P 5) (elementRead Integer 0x02 (0x02 ∷ 0x02 ∷ 0x00 ∷ 0xff ∷ [])) (is 255 4) ∷
+    case (P 6) (elementRead Integer 0x02 (0x02 ∷ 0x01 ∷ 0x00 ∷ 0xff ∷ [])) (is 0 3) ∷
+    case (P 7) (elementRead Integer 0x02 (0x02 ∷ 0x02 ∷ 0x00 ∷ 0x7f ∷ [])) (refused 6 0) ∷
     case (P 8) (shown (answered (readsCondition (0xa1 ∷ 0x02 ∷ 0x05 ∷ 0x00 ∷ [])))) (refused 5 4) ∷
-    case (P 9) (shown (dumped [])) (refused 2 0) ∷
+    case (P 9) (shown (reading [])) (refused 2 0) ∷
     -- 20000229000000Z holds, 19000229000000Z does not
-    case (P 10) (reading Time 0x18 (0x18 ∷ 0x0f ∷ 50 ∷ 48 ∷ 48 ∷ 48 ∷ 48 ∷ 50 ∷ 50 ∷ 57 ∷ 48 ∷ 48 ∷ 48 ∷ 48 ∷ 48 ∷ 48 ∷ 90 ∷ [])) (is 0 17) ∷
-    case (P 10) (reading Time 0x18 (0x18 ∷ 0x0f ∷ 49 ∷ 57 ∷ 48 ∷ 48 ∷ 48 ∷ 50 ∷ 50 ∷ 57 ∷ 48 ∷ 48 ∷ 48 ∷ 48 ∷ 48 ∷ 48 ∷ 90 ∷ [])) (refused 6 0) ∷
-    case Shared (shown (dumped shared)) (accepted 126) ∷
+    case (P 10) (elementRead Time 0x18 (0x18 ∷ 0x0f ∷ 50 ∷ 48 ∷ 48 ∷ 48 ∷ 48 ∷ 50 ∷ 50 ∷ 57 ∷ 48 ∷ 48 ∷ 48 ∷ 48 ∷ 48 ∷ 48 ∷ 90 ∷ [])) (is 0 17) ∷
+    case (P 10) (elementRead Time 0x18 (0x18 ∷ 0x0f ∷ 49 ∷ 57 ∷ 48 ∷ 48 ∷ 48 ∷ 50 ∷ 50 ∷ 57 ∷ 48 ∷ 48 ∷ 48 ∷ 48 ∷ 48 ∷ 48 ∷ 90 ∷ [])) (refused 6 0) ∷
+    case Shared (shown (reading shared)) (accepted 126) ∷
     -- "auth 0 42 1", "cert 0 47 -", "auth 1 84 -"
-    case Shared (linked (dumped shared)) (rows (1 ∷ 0 ∷ 42 ∷ 1 ∷ 3 ∷ 0 ∷ 47 ∷ 4294967295 ∷ 1 ∷ 1 ∷ 84 ∷ 4294967295 ∷ [])) ∷
+    case Shared (linked (reading shared)) (rows (1 ∷ 0 ∷ 42 ∷ 1 ∷ 3 ∷ 0 ∷ 47 ∷ 4294967295 ∷ 1 ∷ 1 ∷ 84 ∷ 4294967295 ∷ [])) ∷
     []
 
 -- every case is answered as document 01 says
 pub all-hold : map (λ c. c .got) table ≡ map (λ c. c .want) table
-unfolding table reading answered linked
+unfolding table elementRead answered linked
 all-hold = refl

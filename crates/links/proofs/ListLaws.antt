@@ -12,7 +12,7 @@ use Rattle.rules.specs.Files.{two}
 use Rattle.rules.specs.Book.{Ends}
 use Rattle.rules.specs.BookLaws.{from-few}
 use Rattle.rules.specs.Blocks.{closing}
-use Rattle.links.specs.Links.{Object, heldFrom, states, answers, rowsOf, stated, objectRows, linksFrom}
+use Rattle.links.specs.Links.{Object, heldFrom, states, answers, rowsOf, recordRows, objectRows, linksFrom}
 use Rattle.links.specs.Finding.{Within, objectsAt, heldAt, NextObject, Indexed, RowsPut}
 use Rattle.links.specs.FindingLaws.{held-first, some-end}
 use Rattle.links.proofs.ObjectLaws.{within-end}
@@ -42,7 +42,7 @@ module _ {b : List ℕ} {i entry object : ℕ} {a c : List ℕ} {o j q : ℕ} (w
     -- the record at j states the link l
     module _ {e l : ℕ} (u : t ≡ false) (d : Ends b j e) (g : l ≡ states entry k) where
       pub telling-same : l ≡ 0 → Telling b i entry object a c o e q
-      unfolding objectRows stated
+      unfolding objectRows recordRows
       telling-same z = record {
         within = within-end (w .within) d;
         few = omega arith;
@@ -50,7 +50,7 @@ module _ {b : List ℕ} {i entry object : ℕ} {a c : List ℕ} {o j q : ℕ} (w
       }
 
       pub telling-more : {f : List ℕ} {r : ℕ} → (l ≡ 0 → ⊥) → RowsPut c f q r (rowsOf l object j (answers l (slice (j + 4) e b) 0 (objectsAt b 0))) → r ≤ q + 512 → Telling b i entry object a f o e r
-      unfolding objectRows stated
+      unfolding objectRows recordRows
       telling-more n x y = record {
         within = within-end (w .within) d;
         few = omega arith;

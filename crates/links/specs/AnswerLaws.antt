@@ -12,7 +12,7 @@ use Rattle.rules.specs.Reading.{Rec}
 use Rattle.rules.specs.Files.{equal}
 use Rattle.rules.specs.EqualLaws.{equal-is}
 use Rattle.rules.specs.EqualLaws.{equal-self}
-use Rattle.links.specs.Links.{Held, held, Object, objectsOf, states, answering, idKind, Found, none, found, firstOf, isId, bears, answers, Reply, by, missing, Row, row, replies, rowsOf, stated, objectRows, linksFrom, links, chosen, objectAt, States, Bears}
+use Rattle.links.specs.Links.{Held, held, Object, objectsOf, states, answering, idKind, Found, none, found, firstOf, isId, bears, answers, Reply, by, missing, Row, row, replies, rowsOf, recordRows, objectRows, linksFrom, links, chosen, objectAt, States, Bears}
 
 -- what bearing is
 bears-is : (link : ℕ) (x : List ℕ) (o : Object) → (bears link x o ≡ true) ↔ ((h : Held) × (answering link (o .entry) ≡ true) × (firstOf (idKind (o .entry)) (o .records) ≡ found h) × (h .pay ≡ x))
@@ -106,8 +106,8 @@ pub record Said (os : List Object) (i entry : ℕ) (h : Held) (r : Row) : Type 0
   pub reply : List·Memᴰ (r .reply) (replies (answers (r .link) (h .pay) 0 os))
 
 module _ (os : List Object) where
-  pub stated-are : (i entry : ℕ) (h : Held) (r : Row) → List·Memᴰ r (stated os i entry h) ↔ Said os i entry h r
-  unfolding stated
+  pub stated-are : (i entry : ℕ) (h : Held) (r : Row) → List·Memᴰ r (recordRows os i entry h) ↔ Said os i entry h r
+  unfolding recordRows
   stated-are i entry h r = go (eqb l 0) refl
     where
       l : ℕ
@@ -130,18 +130,18 @@ module _ (os : List Object) where
   object-rows : (i entry : ℕ) (hs : List Held) (r : Row) → List·Memᴰ r (objectRows os i entry hs) ↔ ((h : Held) × List·Memᴰ h hs × Said os i entry h r)
   unfolding objectRows
   object-rows i entry [] r = (λ m. absurd (List·Memᴰ·not-nil m), λ w. absurd (List·Memᴰ·not-nil (w .1)))
-  object-rows i entry (g ∷ hs) r = let i′ = object-rows i entry hs r in (λ m. to i′ (List·Memᴰ·append-cases (stated os i entry g) m), λ w. from i′ (w .0) (w .1) (w .2))
+  object-rows i entry (g ∷ hs) r = let i′ = object-rows i entry hs r in (λ m. to i′ (List·Memᴰ·append-cases (recordRows os i entry g) m), λ w. from i′ (w .0) (w .1) (w .2))
     where
       Rest : Type 0
       Rest = List·Memᴰ r (objectRows os i entry hs) ↔ ((h : Held) × List·Memᴰ h hs × Said os i entry h r)
 
-      to : Rest → List·Memᴰ r (stated os i entry g) ⊎ List·Memᴰ r (objectRows os i entry hs) → (h : Held) × List·Memᴰ h (g ∷ hs) × Said os i entry h r
+      to : Rest → List·Memᴰ r (recordRows os i entry g) ⊎ List·Memᴰ r (objectRows os i entry hs) → (h : Held) × List·Memᴰ h (g ∷ hs) × Said os i entry h r
       to j (inl m) = (g, List·Memᴰ·head refl, stated-are i entry g r .0 m)
       to j (inr m) = let w = j .0 m in (w .0, List·Memᴰ·tail (w .1), w .2)
 
-      from : Rest → (h : Held) → List·Memᴰ h (g ∷ hs) → Said os i entry h r → List·Memᴰ r (stated os i entry g ++ objectRows os i entry hs)
+      from : Rest → (h : Held) → List·Memᴰ h (g ∷ hs) → Said os i entry h r → List·Memᴰ r (recordRows os i entry g ++ objectRows os i entry hs)
       from j h (List·Memᴰ·head q) s = Memᴰ·append-left (objectRows os i entry hs) (stated-are i entry g r .1 (rw q at s))
-      from j h (List·Memᴰ·tail m) s = Memᴰ·append-right (stated os i entry g) (j .1 (h, m, s))
+      from j h (List·Memᴰ·tail m) s = Memᴰ·append-right (recordRows os i entry g) (j .1 (h, m, s))
 
   links-rows : (k : ℕ) (ps : List Object) (r : Row) → List·Memᴰ r (linksFrom os k ps) ↔ ((i : ℕ) × (o : Object) × (h : Held) × Counted ps k i o × List·Memᴰ h (o .records) × Said os i (o .entry) h r)
   unfolding linksFrom

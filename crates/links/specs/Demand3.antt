@@ -16,7 +16,7 @@ use Rattle.rules.specs.Tables.{kindOf}
 use Rattle.rules.specs.Book.{encode}
 use Rattle.cards.specs.Card as card
 use Rattle.cards.specs.Card.{Card, Meets, dumpOf, bookOf, behind, identifiers}
-use Rattle.links.specs.Links.{Object, objectsOf, by, missing, Row, row, links, states, States, Bears, Rises}
+use Rattle.links.specs.Links.{Object, objectsOf, by, missing, Row, row, links, states, idKind, States, Bears, Rises}
 use Rattle.links.specs.Serving.{ListTold}
 use Rattle.links.specs.AnswerLaws.{rows-answered, rows-missing, rows-stated}
 use Rattle.links.specs.WholeLaws as whole
@@ -51,6 +51,10 @@ nested-stated x a id m = whole.each-nested x a id m
 -- and its records 0127 are just these, as many and in the same order
 pub nested-only : {held : Object} {o : card.Object} → WholeObject held o → heldPays (kindOf Identifier) (held .records) ≡ identifiers o
 nested-only w = whole.nested-held w
+
+-- "bears that identifier in the right field": an object has at most one record of the kind that holds its identifier, 0140 or 0150, so the first is the only one
+pub one-identifier : {held : Object} {o : card.Object} → WholeObject held o → length (heldPays (idKind (held .entry)) (held .records)) ≤ 1
+one-identifier w = whole.one-held w
 
 -- on the list that was accepted
 module _ (x : Card) (meets : Meets x) (bytes : Bytes (dumpOf x)) {a c : List ℕ} {n : ℕ} (t : ListTold (encode (bookOf x)) a c (Accepted n)) where

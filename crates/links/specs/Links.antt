@@ -8,6 +8,7 @@ use lib.ListN.{length, getD}
 use lib.Dec.{leb, eqb}
 use Rattle.elements.specs.Choice.{pick, choose}
 use Rattle.rules.specs.Reading.{Rec}
+use Rattle.rules.specs.Tables.{certificateIdRow, ownIdRow}
 use Rattle.rules.specs.Files.{equal}
 use Rattle.rules.specs.Blocks.{closing}
 
@@ -59,7 +60,7 @@ answering link entry = pick (eqb link 3) (certifying entry) (eqb entry 0xa8)
 
 -- an authentication object bears its 0150, a certificate its 0140
 unfoldable pub idKind : ℕ → ℕ
-idKind entry = pick (certifying entry) 0x0140 0x0150
+idKind entry = pick (certifying entry) (certificateIdRow .kind) (ownIdRow .kind)
 
 -- "the first such record"
 pub data Found : Type 0 where
@@ -109,12 +110,12 @@ rowsOf link i p js = map (row link i p) (replies js)
 
 module _ (os : List Object) where
   -- the rows of a record of object i
-  unfoldable pub stated : ℕ → ℕ → Held → List Row
-  stated i entry h = choose (eqb (states entry (h .kind)) 0) (λ _. []) (λ _. rowsOf (states entry (h .kind)) i (h .at) (answers (states entry (h .kind)) (h .pay) 0 os))
+  unfoldable pub recordRows : ℕ → ℕ → Held → List Row
+  recordRows i entry h = choose (eqb (states entry (h .kind)) 0) (λ _. []) (λ _. rowsOf (states entry (h .kind)) i (h .at) (answers (states entry (h .kind)) (h .pay) 0 os))
 
   unfoldable pub objectRows : ℕ → ℕ → List Held → List Row
   objectRows i entry [] = []
-  objectRows i entry (h ∷ hs) = stated i entry h ++ objectRows i entry hs
+  objectRows i entry (h ∷ hs) = recordRows i entry h ++ objectRows i entry hs
 
   -- "Rows go by stating offset, then answering object": from object i on
   unfoldable pub linksFrom : ℕ → List Object → List Row

@@ -10,7 +10,7 @@ use lib.Dec.{eqb}
 use Rattle.elements.specs.Choice.{choose}
 use Rattle.rules.specs.Reading.{Rec}
 use Rattle.rules.specs.Blocks.{closing}
-use Rattle.links.specs.Links.{Held, held, Object, past, heldFrom, objectsFrom, objectsOf, states, bears, answers, by, Row, row, rowsOf, stated, objectRows, linksFrom, links, Before, Rises}
+use Rattle.links.specs.Links.{Held, held, Object, past, heldFrom, objectsFrom, objectsOf, states, bears, answers, by, Row, row, rowsOf, recordRows, objectRows, linksFrom, links, Before, Rises}
 use Rattle.links.specs.AnswerLaws.{stated-are}
 
 rises-append : (a b : List Row) → Rises a → Rises b → ((r q : Row) → List·Memᴰ r a → List·Memᴰ q b → Before r q) → Rises (a ++ b)
@@ -69,8 +69,8 @@ not-closing k e = go (eqb k 0x0120) (eqb k 0x0110 || (eqb k 0x0107 || eqb k 0x01
     go false u z = refl
 
 module _ (os : List Object) where
-  stated-rise : (i entry : ℕ) (h : Held) → Rises (stated os i entry h)
-  unfolding stated
+  stated-rise : (i entry : ℕ) (h : Held) → Rises (recordRows os i entry h)
+  unfolding recordRows
   stated-rise i entry h = go (eqb (states entry (h .kind)) 0)
     where
       go : (t : Bool) → Rises (choose t (λ _. []) (λ _. rowsOf (states entry (h .kind)) i (h .at) (answers (states entry (h .kind)) (h .pay) 0 os)))
@@ -85,9 +85,9 @@ module _ (os : List Object) where
     where
       go : (t : Bool) → (List·Memᴰ q (objectRows os i entry (heldFrom (past at r) rs)) → past at r ≤ q .at) → List·Memᴰ q (objectRows os i entry (choose t (λ _. []) (λ _. held at (r .kind) (r .pay) ∷ heldFrom (past at r) rs))) → at ≤ q .at
       go true f n = absurd (List·Memᴰ·not-nil n)
-      go false f n = which (List·Memᴰ·append-cases (stated os i entry (held at (r .kind) (r .pay))) n)
+      go false f n = which (List·Memᴰ·append-cases (recordRows os i entry (held at (r .kind) (r .pay))) n)
         where
-          which : List·Memᴰ q (stated os i entry (held at (r .kind) (r .pay))) ⊎ List·Memᴰ q (objectRows os i entry (heldFrom (past at r) rs)) → at ≤ q .at
+          which : List·Memᴰ q (recordRows os i entry (held at (r .kind) (r .pay))) ⊎ List·Memᴰ q (objectRows os i entry (heldFrom (past at r) rs)) → at ≤ q .at
           which (inl v) = omega (arith, stated-are os i entry (held at (r .kind) (r .pay)) q .0 v .at)
           which (inr v) = omega (arith, f v)
 
@@ -116,12 +116,12 @@ module _ (os : List Object) where
       go : (t : Bool) → closing (c .kind) ≡ t → (List·Memᴰ r (objectRows os i entry (heldFrom (past at c) rs)) → List·Memᴰ q (linksFrom os k (objectsFrom (past at c) rs)) → r .at < q .at) →
           List·Memᴰ r (objectRows os i entry (choose t (λ _. []) (λ _. held at (c .kind) (c .pay) ∷ heldFrom (past at c) rs))) → r .at < q .at
       go true e f v = absurd (List·Memᴰ·not-nil v)
-      go false e f v = which (List·Memᴰ·append-cases (stated os i entry (held at (c .kind) (c .pay))) v)
+      go false e f v = which (List·Memᴰ·append-cases (recordRows os i entry (held at (c .kind) (c .pay))) v)
         where
           n′ : List·Memᴰ q (linksFrom os k (objectsFrom (past at c) rs))
           n′ = rw (not-closing (c .kind) e) at n
 
-          which : List·Memᴰ r (stated os i entry (held at (c .kind) (c .pay))) ⊎ List·Memᴰ r (objectRows os i entry (heldFrom (past at c) rs)) → r .at < q .at
+          which : List·Memᴰ r (recordRows os i entry (held at (c .kind) (c .pay))) ⊎ List·Memᴰ r (objectRows os i entry (heldFrom (past at c) rs)) → r .at < q .at
           which (inl w) = omega (arith, stated-are os i entry (held at (c .kind) (c .pay)) r .0 w .at, links-from k (past at c) rs q n′)
           which (inr w) = f w n′
 
@@ -132,7 +132,7 @@ module _ (os : List Object) where
     where
       go : (t : Bool) → Rises (objectRows os i entry (heldFrom (past at r) rs)) → Rises (objectRows os i entry (choose t (λ _. []) (λ _. held at (r .kind) (r .pay) ∷ heldFrom (past at r) rs)))
       go true f = tt
-      go false f = rises-append (stated os i entry (held at (r .kind) (r .pay))) (objectRows os i entry (heldFrom (past at r) rs)) (stated-rise i entry (held at (r .kind) (r .pay))) f
+      go false f = rises-append (recordRows os i entry (held at (r .kind) (r .pay))) (objectRows os i entry (heldFrom (past at r) rs)) (stated-rise i entry (held at (r .kind) (r .pay))) f
           (λ s q m n. inl (omega (arith, stated-are os i entry (held at (r .kind) (r .pay)) s .0 m .at, object-from i entry (past at r) rs q n)))
 
   links-rise : (k at : ℕ) (rs : List Rec) → Rises (linksFrom os k (objectsFrom at rs))

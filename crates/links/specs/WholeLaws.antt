@@ -1,29 +1,29 @@
 -- The objects of a card's book are the card's, in turn, each whole (demand 3).
 use Prim.Native.Nat.{ℕ, suc, _≤_}
-use mathlib.Core.Path.{_≡_, refl, sym, ap, _∙_}
+use mathlib.Core.Path.{_≡_, refl, ap, _∙_}
 use mathlib.Core.List.{List, [], _∷_, _++_, List·Memᴰ, List·Memᴰ·head, List·Memᴰ·tail, List·Memᴰ·cases-cons}
 use mathlib.Core.Logic.{⊎-elim}
-use mathlib.Core.Bool.{Bool, false, not}
+use mathlib.Core.Bool.{Bool, true, false, not}
 use native.Mathlib.Omega.{arith}
 use lib.ListN.{length}
 use lib.Dec.{eqb, T}
 use borrow.Author.Tests.{not-true}
-use Rattle.elements.specs.Choice.{choose}
+use Rattle.elements.specs.Choice.{pick, choose}
 use Rattle.elements.specs.ChoiceLaws.{all-both}
 use Rattle.elements.specs.Lists.{Bytes}
 use Rattle.rules.specs.declared.table.Sort.the-variants.{Identifier}
 use Rattle.rules.specs.Reading.{Rec, rec}
-use Rattle.rules.specs.Tables.{kindOf}
+use Rattle.rules.specs.Tables.{kindOf, certificateIdRow, ownIdRow}
 use Rattle.rules.specs.Files.{readDump, accepted}
 use Rattle.rules.specs.TestLaws.{is-true}
 use Rattle.rules.specs.Pays.{pays}
 use Rattle.rules.specs.Blocks.{closing, inner, info-inner}
 use Rattle.cards.specs.Card as card
-use Rattle.cards.specs.Card.{Card, bookOf, front, behind, identifiers}
-use Rattle.cards.specs.CardKinds.{nested, occurs}
+use Rattle.cards.specs.Card.{Card, bookOf, recordsOf, front, behind, identifiers}
+use Rattle.cards.specs.CardKinds.{certificate-once, own-once, nested, occurs}
 use Rattle.cards.specs.Blocks.{Blocks, nothing, other, whole, records-are, front-entry, behind-inner, card-blocks}
 use Rattle.cards.specs.DumpLaws.{accepted-card}
-use Rattle.links.specs.Links.{Held, held, Object, past, heldFrom, objectsFrom, objectsOf, chosen, objectAt, states, States}
+use Rattle.links.specs.Links.{Held, held, Object, past, heldFrom, objectsFrom, objectsOf, certifying, idKind, chosen, objectAt, states, States}
 use Rattle.links.specs.RisingLaws.{not-closing}
 
 -- these records, each with its book offset
@@ -105,10 +105,23 @@ unfolding heldPays heldAll pays
 held-pays k at [] = refl
 held-pays k at (r ∷ rs) = rw (held-pays k (past at r) rs) refl
 
+-- they are those of the card's object
+held-as : {o : Object} {x : card.Object} → WholeObject o x → (k : ℕ) → eqb 0x0120 k ≡ false → heldPays k (o .records) ≡ pays k (recordsOf x)
+unfolding pays
+held-as {x = x} w k e = rw (w .all, held-pays k (w .from) (behind x), records-are x, e) refl
+
 -- the 0127s of an object are the identifiers in the conditions of its rules, at any depth, as many and in the same order
 pub nested-held : {o : Object} {x : card.Object} → WholeObject o x → heldPays (kindOf Identifier) (o .records) ≡ identifiers x
-unfolding pays
-nested-held {x = x} w = rw (w .all) (held-pays (kindOf Identifier) (w .from) (behind x) ∙ sym (ap (pays (kindOf Identifier)) (records-are x)) ∙ nested x)
+nested-held {x = x} w = held-as w (kindOf Identifier) refl ∙ nested x
+
+-- the record that holds an object's identifier is the only one of its kind
+pub one-held : {o : Object} {x : card.Object} → WholeObject o x → length (heldPays (idKind (o .entry)) (o .records)) ≤ 1
+unfolding idKind
+one-held {o} {x} w = go (certifying (o .entry))
+  where
+    go : (b : Bool) → length (heldPays (pick b (certificateIdRow .kind) (ownIdRow .kind)) (o .records)) ≤ 1
+    go true = rw (held-as w (certificateIdRow .kind) refl) (certificate-once x)
+    go false = rw (held-as w (ownIdRow .kind) refl) (own-once x)
 
 -- a record among these is held at some offset
 held-mem : (at kind : ℕ) (x : List ℕ) (rs : List Rec) → List·Memᴰ (rec kind x) rs → (q : ℕ) × List·Memᴰ (held q kind x) (heldAll at rs)

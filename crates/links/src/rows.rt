@@ -7,6 +7,7 @@ use crate::sorts::link_of;
 use rules::byte_at;
 use rules::record_end;
 use rules::same_bytes;
+use rules::store;
 use rules::word;
 ghost use mathlib.Core.List.{[], _∷_};
 ghost use Prim.Native.Nat.{_+_, _^_, _≤_, _<_};
@@ -17,27 +18,15 @@ ghost use Rattle.links.specs.Links.{answers, rowsOf, objectRows, linksFr
 ghost use Rattle.links.specs.Finding.{Within, objectsAt, heldAt, Indexed, AnswerTold, RowsPut};
 ghost use Rattle.links.specs.Chains.{Chained};
 
-// A number, if there is room for it.
-fn put_word(rows: &mut [u32], o: usize, v: u32) -> usize
-    requires { ⌜ o < 2 ^ 63 ⌝ }
-    ensures { λ r. ⌜ Put (now (rows .entry)) (now (rows .exit)) o r (v ∷ []) ⌝ }
-{
-    if o < rows.len() {
-        rows[o] = v;
-        return o + 1;
-    }
-    o + 1
-}
-
 // A row of four numbers.
 fn put_row(rows: &mut [u32], o: usize, link: u32, object: u32, at: u32, answer: u32) -> usize
     requires { ⌜ o < 2 ^ 62 ⌝ }
     ensures { λ r. ⌜ Put (now (rows .entry)) (now (rows .exit)) o r (link ∷ object ∷ at ∷ answer ∷ []) ⌝ }
 {
-    let p = put_word(rows, o, link);
-    let q = put_word(rows, p, object);
-    let r = put_word(rows, q, at);
-    put_word(rows, r, answer)
+    let p = store(rows, o, link);
+    let q = store(rows, p, object);
+    let r = store(rows, q, at);
+    store(rows, r, answer)
 }
 
 // Whether an object with this entry and identifier's place answers the link that the record from p to e states.

@@ -2,7 +2,7 @@
 use Prim.Native.Nat.{ℕ}
 use mathlib.Core.List.{List}
 use Rattle.rules.specs.declared.table.Need.the-variants.{Required, Optional}
-use Rattle.rules.specs.declared.table.Sequence.the-variants.{Password}
+use Rattle.rules.specs.declared.table.Sequence.the-variants.{PasswordAttributes}
 use Rattle.rules.specs.Reading.{Reader, _then_}
 use Rattle.rules.specs.Parts.{component, components, rest}
 use Rattle.rules.specs.Tables.{passwordRows, restOf, keptOf, classOf}
@@ -15,4 +15,4 @@ module _ (s : List ℕ) where
 
   -- "Password .. as 30 { pwdFlags .., Path? 30, rest 019F }", without its rule
   abbrev pub passwordParts : Reader
-  passwordParts = components s passwordRows then component s 0x30 Optional (path s) then rest s (restOf Password) (keptOf Password)
+  passwordParts = components s passwordRows then component s 0x30 Optional (path s) then rest s (restOf PasswordAttributes) (keptOf PasswordAttributes)

@@ -50,7 +50,7 @@ fn class_body(s: &[u8], c: Class, at: usize, a: usize, e: usize, out: &mut [u8],
 {
     match c {
         Class::Keys => sequence(s, Sequence::Key, e, a, out, o),
-        Class::Certificates => sequence(s, Sequence::Certificate, e, a, out, o),
+        Class::Certificates => sequence(s, Sequence::CertificateAttributes, e, a, out, o),
         Class::Authentications => sequence(s, Sequence::Authentication, e, a, out, o),
         Class::Containers => container(s, at, a, e, out, o),
     }

@@ -44,9 +44,9 @@ fn private_key(s: &[u8], a: usize, e: usize, out: &mut [u8], o: usize) -> Part
 {
     match due_path(s, Need::Required, e, a, out, o) {
         Part::Fails(f, p) => Part::Fails(f, p),
-        Part::Took(n, q) => match components(s, Sequence::PrivateKey, e, n, out, q) {
+        Part::Took(n, q) => match components(s, Sequence::PrivateKeyAttributes, e, n, out, q) {
             Part::Fails(f, p) => Part::Fails(f, p),
-            Part::Took(m, t) => rest_in(s, Sequence::PrivateKey, e, m, out, t),
+            Part::Took(m, t) => rest_in(s, Sequence::PrivateKeyAttributes, e, m, out, t),
         },
     }
 }
@@ -94,11 +94,11 @@ fn password_parts(s: &[u8], a: usize, e: usize, out: &mut [u8], o: usize) -> Par
     requires { ⌜ InContainer (now s) e a o ⌝ }
     ensures { λ r. ⌜ Did (now (out .entry)) (now (out .exit)) o a e (passwordParts (now (s .entry)) e a) r ⌝ }
 {
-    match components(s, Sequence::Password, e, a, out, o) {
+    match components(s, Sequence::PasswordAttributes, e, a, out, o) {
         Part::Fails(f, p) => Part::Fails(f, p),
         Part::Took(n, q) => match due_path(s, Need::Optional, e, n, out, q) {
             Part::Fails(f, p) => Part::Fails(f, p),
-            Part::Took(m, t) => rest_in(s, Sequence::Password, e, m, out, t),
+            Part::Took(m, t) => rest_in(s, Sequence::PasswordAttributes, e, m, out, t),
         },
     }
 }

@@ -17,31 +17,19 @@ use objects::put_behind;
 use objects::put_two;
 use objects::stands;
 use rules::Need;
+use rules::store;
 ghost use mathlib.Core.Path.{_≡_};
 ghost use mathlib.Core.Bool.{_&&_};
 ghost use mathlib.Core.List.{[], _∷_};
-ghost use Prim.Native.Nat.{_+_, _*_, _^_, _≤_, _<_};
+ghost use Prim.Native.Nat.{_+_, _*_, _≤_};
 ghost use lib.ListN.{length};
 ghost use lib.Dec.{leb};
-ghost use Rattle.elements.specs.Put.{Put};
 ghost use Rattle.rules.specs.declared.table.Need.the-variants.{Required};
 ghost use Rattle.rules.specs.Reading.{_then_};
 ghost use Rattle.rules.specs.Parts.{component, element, ended, sealed};
 ghost use Rattle.rules.specs.Files.{objects, namedPath, entryInside, entryBody, od, directory};
 ghost use Rattle.objects.specs.Did.{Did, InElement, InContainer};
 ghost use Rattle.reader.specs.Filing.{DidObjects, DidEntries, ForwardMany, moreOf, inlined, knownEntry, entryAt, entriesAt, filed};
-
-// Stores an object's place where there is room for it.
-fn put_place(marks: &mut [u32], k: usize, v: u32) -> usize
-    requires { ⌜ k < 2 ^ 63 ⌝ }
-    ensures { λ r. ⌜ Put (now (marks .entry)) (now (marks .exit)) k r (v ∷ []) ⌝ }
-{
-    if k < marks.len() {
-        marks[k] = v;
-        return k + 1;
-    }
-    k + 1
-}
 
 // Whether another object comes: up to the container's end, or up to the fill of a file.
 fn more_at(s: &[u8], file: bool, end: usize, at: usize) -> bool
@@ -78,7 +66,7 @@ fn objects(
                 return Many::Fails(f, x);
             }
             Part::Took(m, t) => {
-                j = put_place(marks, j, n as u32);
+                j = store(marks, j, n as u32);
                 n = m;
                 p = t;
             }

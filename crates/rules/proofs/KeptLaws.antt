@@ -11,7 +11,7 @@ use Rattle.rules.specs.declared.table.Need.{Need}
 use Rattle.rules.specs.declared.table.Need.the-variants.{Required, Optional, Default}
 use Rattle.rules.specs.declared.table.Row.{Row}
 use Rattle.rules.specs.declared.table.Sequence.{Sequence}
-use Rattle.rules.specs.declared.table.Sequence.the-variants.{Info, Common, Rule, Key, Certificate, Authentication, PrivateKey, Password, Path}
+use Rattle.rules.specs.declared.table.Sequence.the-variants.{Info, Common, Rule, Key, CertificateAttributes, Authentication, PrivateKeyAttributes, PasswordAttributes, Path}
 use Rattle.rules.specs.Parts.{unlessRequired, keptOut}
 use Rattle.rules.specs.Tables.{rowsOf, noRow, beside, keptOf}
 
@@ -21,10 +21,10 @@ few Info = omega arith
 few Common = omega arith
 few Rule = omega arith
 few Key = omega arith
-few Certificate = omega arith
+few CertificateAttributes = omega arith
 few Authentication = omega arith
-few PrivateKey = omega arith
-few Password = omega arith
+few PrivateKeyAttributes = omega arith
+few PasswordAttributes = omega arith
 few Path = omega arith
 
 -- one component's tag, by its need

@@ -20,7 +20,7 @@ use Rattle.elements.specs.Header.{header}
 use Rattle.elements.specs.HeaderLaws.{header-in, header-sound, header-complete}
 use Rattle.elements.specs.Sealed.{sealedRun}
 use Rattle.elements.specs.SealedLaws.{sealed-sound, sealed-complete}
-use Rattle.rules.specs.Grammar.{Element, low, elementBytes, firstOf, IsElement, SealedRun, over, plain, deep}
+use Rattle.rules.specs.Grammar.{Element, low, elementBytes, firstOf, IsElement, SealedRun, over, shallow, deep}
 
 -- a part that is known, and what is left of its container
 pub record Parted (s : List ℕ) (at end : ℕ) (p w : List ℕ) : Type 0 where
@@ -141,7 +141,7 @@ nested-run : (s : List ℕ) → Bytes s → {l : ℕ} {out : List ℕ} {at end :
 nested-run s bytes {at = at} {end = end} k (encodings.over e) = over {c = slice at end s} (rw e (slice-empty end s))
 nested-run s bytes {out = out} {at = at} {end = end} k (encodings.plain {b = b} {e = e} d m c n) =
     let v = head-sound s bytes at end k (header-complete s at end k d) in
-    plain {out = out} (v .x) (slice e end s) (v .element) (rw (v .tag) m) (rw (v .tag) c) (nested-run s bytes k n) (v .split)
+    shallow {out = out} (v .x) (slice e end s) (v .element) (rw (v .tag) m) (rw (v .tag) c) (nested-run s bytes k n) (v .split)
 nested-run s bytes {out = out} {at = at} {end = end} k (encodings.deep {b = b} {a = a} {e = e} d m c i n) =
     let v = head-sound s bytes at end k (header-complete s at end k d) in
     let z : a ≤ e = d .order in
@@ -149,7 +149,7 @@ nested-run s bytes {out = out} {at = at} {end = end} k (encodings.deep {b = b} {
 
 run-nested : (s : List ℕ) → length s ≤ 32768 → {l : ℕ} {out c : List ℕ} → SealedRun l out c → (at end : ℕ) → at ≤ end → end ≤ length s → slice at end s ≡ c → Nested s l out at end
 run-nested s small (over z) at end h k q = encodings.over (is-end s at end h k (q ∙ z))
-run-nested s small (plain x w i m c n z) at end h k q =
+run-nested s small (shallow x w i m c n z) at end h k q =
     let v = head-complete s small at end x w h k i (q ∙ z) in
     encodings.plain (v .der) m c (run-nested s small n (v .e) end (v .stands .inside) k (v .left))
 run-nested s small (deep x w i m c j n z) at end h k q =

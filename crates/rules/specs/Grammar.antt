@@ -49,7 +49,7 @@ pub record IsElement (x : Element) : Type 0 where
 -- "A sealed part is checked for tags, lengths and exact nesting only": elements one after the other, none on this level with a tag kept out
 pub data SealedRun : ℕ → List ℕ → List ℕ → Type 0 where
   over : {l : ℕ} {out c : List ℕ} → c ≡ [] → SealedRun l out c
-  plain : {l : ℕ} {out c : List ℕ} (x : Element) (w : List ℕ) → IsElement x → among (firstOf x) out ≡ false → constructed (firstOf x) ≡ false →
+  shallow : {l : ℕ} {out c : List ℕ} (x : Element) (w : List ℕ) → IsElement x → among (firstOf x) out ≡ false → constructed (firstOf x) ≡ false →
       SealedRun (suc l) out w → c ≡ elementBytes x ++ w → SealedRun (suc l) out c
   deep : {l : ℕ} {out c : List ℕ} (x : Element) (w : List ℕ) → IsElement x → among (firstOf x) out ≡ false → constructed (firstOf x) ≡ true →
       SealedRun l [] (x .contents) → SealedRun (suc l) out w → c ≡ elementBytes x ++ w → SealedRun (suc l) out c

@@ -28,7 +28,7 @@ use Rattle.rules.specs.declared.table.Need.the-variants.{Required, Optio
 use Rattle.rules.specs.Reading.{Rec, rec, Res, took, fails, also, andThen, _then_, Reader, Body}
 use Rattle.rules.specs.Parts as parts
 use Rattle.rules.specs.Parts.{component, due, absent, surplus, whatever, inside, keep}
-use Rattle.rules.specs.Grammar.{Element, low, elementBytes, firstOf, IsElement, SealedRun, over, plain, deep, Part, Item, empty, _and_, one, optional, slot, tagged, choice, raw, unlessEmpty, rest}
+use Rattle.rules.specs.Grammar.{Element, low, elementBytes, firstOf, IsElement, SealedRun, over, shallow, deep, Part, Item, empty, _and_, one, optional, slot, tagged, choice, raw, unlessEmpty, rest}
 use Rattle.rules.specs.ElementLaws.{is-end, Stands, Headed, head-sound, Placed, head-complete, run-sound, run-complete}
 pub use Rattle.rules.specs.ElementLaws.{lowTag, LowTag, low-tag, low-is, low-first, low-bytes}
 
@@ -313,7 +313,7 @@ module _ (s : List ℕ) (bytes : Bytes s) (small : length s ≤ 32768) where
 
   rest-starts : (out c : List ℕ) {l : ℕ} → SealedRun l out c → Starts (λ t. not (among t out)) true c
   rest-starts out c (over e) = without tt e
-  rest-starts out c (plain x w i m k n e) = begun x w i (rw m refl) e
+  rest-starts out c (shallow x w i m k n e) = begun x w i (rw m refl) e
   rest-starts out c (deep x w i m k j n e) = begun x w i (rw m refl) e
 
   rest-complete : (kind : ℕ) (out c : List ℕ) (end at : ℕ) → at ≤ end → end ≤ length s → SealedRun 16 out c → slice at end s ≡ c → Goes s end at (unlessEmpty kind c) 0 [] (parts.rest s kind out end at)

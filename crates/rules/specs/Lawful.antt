@@ -224,7 +224,7 @@ module _ (kind : ℕ) where
 
       begins : {l : ℕ} (c : List ℕ) → SealedRun l [] c → exact.Starts anyTag true c
       begins c (grammar.over e) = exact.without tt e
-      begins c (grammar.plain x w i m k n e) = exact.begun x w i refl e
+      begins c (grammar.shallow x w i m k n e) = exact.begun x w i refl e
       begins c (grammar.deep x w i m k j n e) = exact.begun x w i refl e
 
   pub sealed-lawful : T (ltb kind 65536) → Lawful (grammar.raw (rec kind) (SealedRun 16 [])) sealedRead (rKeep kind) (look (kind ∷ []) false (kind ∷ []) 8) (exact.look anyTag true close)

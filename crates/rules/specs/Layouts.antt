@@ -11,7 +11,7 @@ use Rattle.rules.specs.declared.table.Class.the-variants.{Keys, Certific
 use Rattle.rules.specs.declared.table.ObjectType.{ObjectType}
 use Rattle.rules.specs.declared.table.ObjectType.the-variants.{PrivateKey, Certificate, Password, Sealed}
 use Rattle.rules.specs.declared.table.Sequence.{Sequence}
-use Rattle.rules.specs.declared.table.Sequence.the-variants.{Info, Common, Rule, Key, Certificate as CertificateAttributes, Authentication, PrivateKey as PrivateKeyAttributes, Password as PasswordAttributes}
+use Rattle.rules.specs.declared.table.Sequence.the-variants.{Info, Common, Rule, Key, CertificateAttributes, Authentication, PrivateKeyAttributes, PasswordAttributes}
 use Rattle.rules.specs.Tables.{ciaRows, commonRows, ruleRows, keyRows, certificateRows, authenticationRows, pathRows, privateRows, passwordRows, restOf, keptOf, typeOf, classOf}
 use Rattle.rules.specs.Rulings.{paired, flagged, quiet}
 use Rattle.rules.specs.Grammar as grammar

@@ -1,17 +1,23 @@
 -- The payloads of the records of one kind.
-use Prim.Native.Nat.{ℕ}
+use Prim.Native.Nat.{ℕ, _+_, _≤_}
 use mathlib.Core.List.{List, [], _∷_, _++_, List·Memᴰ, List·Memᴰ·head, List·Memᴰ·tail, List·Memᴰ·not-nil, List·Memᴰ·cases-cons}
 use mathlib.Core.Logic.{_↔_, ⊎-elim}
 use mathlib.Core.Bool.{Bool, true, false, not}
+use mathlib.Core.Option.{none, some}
 use mathlib.Core.Path.{_≡_, refl, sym, ap, _∙_}
+use native.Mathlib.Omega.{arith}
+use lib.ListN.{length, length-append}
 use lib.Dec.{eqb, T}
 use borrow.Author.Tests.{eqb-true, eqb-false}
-use Rattle.elements.specs.Choice.{choose}
+use Rattle.elements.specs.Choice.{pick, choose}
 use Rattle.elements.specs.Sealed.{among}
+use Rattle.rules.specs.declared.table.Need.{Need}
+use Rattle.rules.specs.declared.table.Need.the-variants.{Required, Optional, Default}
+use Rattle.rules.specs.declared.table.Row.{Row}
 use Rattle.rules.specs.Reading.{Rec, rec}
 use Rattle.rules.specs.Tables.{ownIdRow}
-use Rattle.rules.specs.Grammar.{flat}
-use Rattle.rules.specs.Kinds.{Among, none-there, there}
+use Rattle.rules.specs.Grammar.{slot, tagged, unlessEmpty, payOf, field, fields, flat}
+use Rattle.rules.specs.Kinds.{Among, none-there, there, kindsOf}
 use Rattle.rules.specs.Layout.{Layout}
 
 -- the payloads of the records of kind k, in order
@@ -55,6 +61,53 @@ pays-none k ks t (there {r = r} {rs = rs} h g) = go (eqb (r .kind) k) refl (pays
 -- of a layout without that kind
 pub lacks : (k : ℕ) (P : Layout) → T (not (among k (P .all))) → (x : P .part .Of) → pays k (P .part .book x) ≡ []
 lacks k P t x = pays-none k (P .all) t (P .only x)
+
+-- how many of these kinds are k
+abbrev pub times : ℕ → List ℕ → ℕ
+times k [] = 0
+times k (x ∷ xs) = pick (eqb x k) 1 0 + times k xs
+
+-- of kind k there are at most as many records as kinds
+pub record Few (k : ℕ) (ks : List ℕ) (rs : List Rec) : Type 0 where
+  pub most : length (pays k rs) ≤ times k ks
+
+none-few : (k : ℕ) (ks : List ℕ) → Few k ks []
+unfolding pays
+none-few k ks = record { most = omega arith }
+
+-- one record
+pub one-few : (k kind : ℕ) (p : List ℕ) → Few k (kind ∷ []) (rec kind p ∷ [])
+unfolding pays
+one-few k kind p = record { most = go (eqb kind k) }
+  where
+    go : (b : Bool) → length (choose b (λ _. p ∷ []) (λ _. [])) ≤ pick b 1 0 + 0
+    go true = omega arith
+    go false = omega arith
+
+-- records behind records
+times-append : (k : ℕ) (l m : List ℕ) → times k (l ++ m) ≡ times k l + times k m
+times-append k [] m = omega arith
+times-append k (x ∷ l) m = omega (arith, times-append k l m)
+
+pub and-few : {k : ℕ} {l m : List ℕ} {bs cs : List Rec} → Few k l bs → Few k m cs → Few k (l ++ m) (bs ++ cs)
+and-few {k} {l} {m} {bs} {cs} f g = record { most = rw (pays-append k bs cs) (omega (arith, length-append (pays k bs) (pays k cs), times-append k l m)) }
+
+-- a rest
+pub rest-few : (k kind : ℕ) (c : List ℕ) → Few k (kind ∷ []) (unlessEmpty kind c)
+rest-few k kind [] = none-few k (kind ∷ [])
+rest-few k kind (x ∷ c) = one-few k kind (x ∷ c)
+
+-- the components of a table
+slot-few : (k : ℕ) (r : Row) (d : Need) (x : slot d (tagged (r .tag) (field r)) .Of) → Few k (r .kind ∷ []) (slot d (tagged (r .tag) (field r)) .book x)
+slot-few k r Required x = one-few k (r .kind) (payOf (r .form) x)
+slot-few k r Optional none = none-few k (r .kind ∷ [])
+slot-few k r Optional (some x) = one-few k (r .kind) (payOf (r .form) x)
+slot-few k r (Default v) none = none-few k (r .kind ∷ [])
+slot-few k r (Default v) (some x) = one-few k (r .kind) (payOf (r .form) x)
+
+pub fields-few : (k : ℕ) (rs : List Row) (x : fields rs .Of) → Few k (kindsOf rs) (fields rs .book x)
+fields-few k [] x = none-few k []
+fields-few k (r ∷ rs) (x, y) = and-few {l = r .kind ∷ []} (slot-few k r (r .need) x) (fields-few k rs y)
 
 -- the records of kind k, by their payloads
 pub in-pays : (k : ℕ) (x : List ℕ) (rs : List Rec) → List·Memᴰ x (pays k rs) ↔ List·Memᴰ (rec k x) rs

@@ -20,7 +20,7 @@ use Rattle.rules.specs.declared.table.Need.the-variants.{Required, Optio
 use Rattle.rules.specs.declared.table.Row.{Row}
 use Rattle.rules.specs.Looks.{Look, look, onlyIf, seqLook, elemLook, offerLook, restLook, manyLook, leastLook, joinLook, rowLook, rowsLook, fillLook}
 use Rattle.rules.specs.Rendering.{gives, Renderer, nothing, _next_, within, when, either, from, plain, unvalue, rRow, rRows, rKeep, rMany, rAll, rTimes, rFill}
-use Rattle.rules.specs.Grammar.{low, elementBytes, SealedRun, over, plain as plainly, deep, Part, Item, empty, _and_, _or_, one, optional, slot, tagged, with, behind, sealedOne, raw, unlessEmpty, rest, flat, AllMeet, many, Worth, contentsOf, payOf, Fine, field, fields, fill}
+use Rattle.rules.specs.Grammar.{low, elementBytes, SealedRun, over, shallow, deep, Part, Item, empty, _and_, _or_, one, optional, slot, tagged, with, behind, sealedOne, raw, unlessEmpty, rest, flat, AllMeet, many, Worth, contentsOf, payOf, Fine, field, fields, fill}
 use Rattle.rules.specs.ElementLaws.{lowTag, LowTag, low-tag, wrap-is, element-long, same-element}
 use Rattle.rules.specs.ValueLaws.{count-le16, number-le32}
 use Rattle.rules.specs.LookLaws.{pay-first, Fresh, Begins, avoids, size, Laid, bodily, repeats, subset, implies, under, fresh-left, fresh-right, begins-fresh, begins-hard, begins-soft, begins-one, size-append, laid-append, when-none, when-some, fresh-subset, only, begins-many, begins-more, begins-later, apart, longer, not-empty, begins-subset, begins-seq, either-left, either-right, none, some}
@@ -184,7 +184,7 @@ sealed-all-renders kind t = when-renders {P = raw (rec kind) (SealedRun 16 [])} 
 -- a run of sealed elements that is not empty has two bytes
 run-long : {l : ℕ} {out : List ℕ} (x : ℕ) (c : List ℕ) → SealedRun l out (x ∷ c) → 2 ≤ length (x ∷ c)
 run-long x c (over e) = let z : _≡_ {A = ℕ} 0 1 = cc in absurd (omega arith)
-run-long x c (plainly i w a b d n e) = omega (arith, element-long i, ap length e, length-append (elementBytes i) w)
+run-long x c (shallow i w a b d n e) = omega (arith, element-long i, ap length e, length-append (elementBytes i) w)
 run-long x c (deep i w a b d j n e) = omega (arith, element-long i, ap length e, length-append (elementBytes i) w)
 
 -- the rest of a sequence

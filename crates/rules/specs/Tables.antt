@@ -13,7 +13,7 @@ use Rattle.rules.specs.declared.table.Class.the-variants.{Keys, Certific
 use Rattle.rules.specs.declared.table.ObjectType.{ObjectType}
 use Rattle.rules.specs.declared.table.ObjectType.the-variants.{PrivateKey, Certificate, Password, Sealed}
 use Rattle.rules.specs.declared.table.Sequence.{Sequence}
-use Rattle.rules.specs.declared.table.Sequence.the-variants.{Info, Common, Rule, Key, Certificate as CertificateAttributes, Authentication, PrivateKey as PrivateKeyAttributes, Password as PasswordAttributes, Path}
+use Rattle.rules.specs.declared.table.Sequence.the-variants.{Info, Common, Rule, Key, CertificateAttributes, Authentication, PrivateKeyAttributes, PasswordAttributes, Path}
 use Rattle.rules.specs.declared.table.Sort.{Sort}
 use Rattle.rules.specs.declared.table.Sort.the-variants.{Always, Identifier, Not, And, Or, Other}
 use Rattle.rules.specs.Parts.{row, keptOut}
@@ -71,11 +71,13 @@ keyRows =
     row 0x80 0x0136 Time Optional 0 0 ∷
     []
 
--- CommonCertificateAttributes
+-- CommonCertificateAttributes: iD
+abbrev pub certificateIdRow : Row
+certificateIdRow = row 0x04 0x0140 Octets Required 0 255
+
 abbrev pub certificateRows : List Row
 certificateRows =
-    -- iD
-    row 0x04 0x0140 Octets Required 0 255 ∷
+    certificateIdRow ∷
     -- authority
     row 0x01 0x0141 Boolean (Default 0) 0 0 ∷
     []

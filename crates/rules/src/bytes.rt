@@ -1,7 +1,9 @@
 ghost use mathlib.Core.Path.{_≡_};
-ghost use Prim.Native.Nat.{_+_, _*_, _≤_};
+ghost use mathlib.Core.List.{[], _∷_};
+ghost use Prim.Native.Nat.{_+_, _*_, _^_, _≤_, _<_};
 ghost use lib.ListN.{length};
 ghost use lib.Seq.{slice};
+ghost use Rattle.elements.specs.Put.{Put};
 ghost use Rattle.rules.specs.Files.{two, equal};
 
 // A number in two bytes, the low one first.
@@ -37,4 +39,16 @@ pub fn same_bytes(s: &[u8], i: usize, j: usize, t: &[u8], k: usize, l: usize) ->
         y += 1;
     }
     true
+}
+
+// A number into a lent slice of numbers, where that has a place for it.
+pub fn store(numbers: &mut [u32], o: usize, v: u32) -> usize
+    requires { ⌜ o < 2 ^ 63 ⌝ }
+    ensures { λ r. ⌜ Put (now (numbers .entry)) (now (numbers .exit)) o r (v ∷ []) ⌝ }
+{
+    if o < numbers.len() {
+        numbers[o] = v;
+        return o + 1;
+    }
+    o + 1
 }

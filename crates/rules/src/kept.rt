@@ -30,10 +30,10 @@ fn put_beside(q: Sequence, tags: &mut [u8]) -> usize
         Sequence::Common => put_byte(tags, 0, 0x30),
         Sequence::Rule => 0,
         Sequence::Key => 0,
-        Sequence::Certificate => 0,
+        Sequence::CertificateAttributes => 0,
         Sequence::Authentication => 0,
-        Sequence::PrivateKey => 0,
-        Sequence::Password => put_byte(tags, 0, 0x30),
+        Sequence::PrivateKeyAttributes => 0,
+        Sequence::PasswordAttributes => put_byte(tags, 0, 0x30),
         Sequence::Path => 0,
     }
 }

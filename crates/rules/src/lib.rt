@@ -13,6 +13,7 @@ pub use book::is_next;
 pub use book::record_end;
 pub use bytes::of_two;
 pub use bytes::same_bytes;
+pub use bytes::store;
 pub use bytes::word;
 pub use class::class_of;
 pub use kept::kept_out;

@@ -149,16 +149,16 @@ pub fn row_of(q: Sequence, i: usize) -> Row
         Sequence::Key => {
             return row(KEY[i]);
         }
-        Sequence::Certificate => {
+        Sequence::CertificateAttributes => {
             return row(CERTIFICATE[i]);
         }
         Sequence::Authentication => {
             return row(AUTHENTICATION[i]);
         }
-        Sequence::PrivateKey => {
+        Sequence::PrivateKeyAttributes => {
             return row(PRIVATE_KEY[i]);
         }
-        Sequence::Password => {
+        Sequence::PasswordAttributes => {
             return row(PASSWORD[i]);
         }
         Sequence::Path => {
@@ -176,10 +176,10 @@ pub fn count_of(q: Sequence) -> usize
         Sequence::Common => COMMON.len(),
         Sequence::Rule => RULE.len(),
         Sequence::Key => KEY.len(),
-        Sequence::Certificate => CERTIFICATE.len(),
+        Sequence::CertificateAttributes => CERTIFICATE.len(),
         Sequence::Authentication => AUTHENTICATION.len(),
-        Sequence::PrivateKey => PRIVATE_KEY.len(),
-        Sequence::Password => PASSWORD.len(),
+        Sequence::PrivateKeyAttributes => PRIVATE_KEY.len(),
+        Sequence::PasswordAttributes => PASSWORD.len(),
         Sequence::Path => PATH.len(),
     }
 }
@@ -193,10 +193,10 @@ pub fn rest_of(q: Sequence) -> u16
         Sequence::Common => 0x012f,
         Sequence::Rule => 0x012c,
         Sequence::Key => 0x013f,
-        Sequence::Certificate => 0x014f,
+        Sequence::CertificateAttributes => 0x014f,
         Sequence::Authentication => 0x015f,
-        Sequence::PrivateKey => 0x018f,
-        Sequence::Password => 0x019f,
+        Sequence::PrivateKeyAttributes => 0x018f,
+        Sequence::PasswordAttributes => 0x019f,
         Sequence::Path => 0,
     }
 }

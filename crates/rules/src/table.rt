@@ -23,10 +23,10 @@ pub enum Sequence {
     Common,
     Rule,
     Key,
-    Certificate,
+    CertificateAttributes,
     Authentication,
-    PrivateKey,
-    Password,
+    PrivateKeyAttributes,
+    PasswordAttributes,
     Path,
 }
 

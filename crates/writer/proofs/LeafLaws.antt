@@ -17,8 +17,9 @@ use Rattle.elements.specs.PutLaws.{put-then, put-length}
 use Rattle.writer.specs.declared.made.Made.{Made}
 use Rattle.writer.specs.declared.made.Made.the-variants.{Took, Long}
 use Rattle.rules.specs.declared.table.Row.{Row}
+use Rattle.rules.specs.declared.table.Sequence.{Sequence}
 use Rattle.rules.specs.Reading.{Rec, count, number}
-use Rattle.rules.specs.Tables.{noRow}
+use Rattle.rules.specs.Tables.{noRow, rowsOf, restOf}
 use Rattle.rules.specs.Render.{gives, Renderer, nothing, _next_, within, from, plain, unvalue, rRow, rRows, rKeep, rFill}
 use Rattle.rules.specs.Book.{recordsFrom, Ends, nextIs}
 use Rattle.writer.specs.Making.{Makes, breaks}
@@ -89,10 +90,10 @@ module _ (f : Form) {b a : List ℕ} {i o : ℕ} where
 
   module _ {c : List ℕ} {e q : ℕ} (h : Ends b i e) (d : Put a c o q (unvalue f (slice (i + 4) e b))) where
     pub told-long : length c < q → Makes b a c i o (from (valueOf f) (recordsFrom b i)) Long
-    told-long l = from-some (valueOf f) h (puts-long (recordsFrom b e) d (omega (arith, put-length d)))
+    told-long l = from-some (valueOf f) h (puts-long d e (recordsFrom b e) l)
 
     pub told-took : q ≤ length c → Makes b a c i o (from (valueOf f) (recordsFrom b i)) (Took e q)
-    told-took l = from-some (valueOf f) h (puts-took d (h .high) (omega (arith, put-length d)))
+    told-took l = from-some (valueOf f) h (puts-took d (h .high) l)
 
 pub plain-made : (rs : List Rec) {b a c : List ℕ} {i o : ℕ} {r : Made} → Makes b a c i o (from (valueOf Octets) rs) r → Makes b a c i o (plain rs) r
 unfolding unvalue
@@ -135,7 +136,7 @@ module _ {b a : List ℕ} {i e o n : ℕ} (h : Ends b i e) (z : n ≡ count (dro
       from-some fillOf h (breaks {w = fillOf 0 (slice (i + 4) e b) (recordsFrom b e)} (rw (← z) (omega (arith, length-replicate n w))) refl)
 
   pub same-took : {c : List ℕ} {x : ℕ} → n ≤ length a - o → o ≤ length a → x ≡ getD (slice (i + 4) e b) 0 0 → Put a c o (o + n) (replicate n x) → Makes b a c i o (from fillOf (recordsFrom b i)) (Took e (o + n))
-  same-took l m y d = from-some fillOf h (rw (← z, ← y) (puts-took d (h .high) (omega arith)))
+  same-took l m y d = from-some fillOf h (rw (← z, ← y) (puts-took d (h .high) (omega (arith, put-length d))))
 
 module _ (k : ℕ) (b : List ℕ) (i : ℕ) {t : Bool} (e : t ≡ nextIs k (recordsFrom b i)) {a : List ℕ} {o : ℕ} where
   pub fill-yes : {c : List ℕ} {r : Made} → t ≡ true → Makes b a c i o (from fillOf (recordsFrom b i)) r → Makes b a c i o (rFill k (recordsFrom b i)) r
@@ -213,3 +214,15 @@ along-all {b} {rs} {a} {c} {i} {o} {last} {k} {n} {p} h l =
     let e : drop k rs ≡ [] = drop-of-length-le rs {i = k} (omega (arith, h .all)) in
     let u : gives (x .bytes ++ []) (x .left) ≡ rRows rs (recordsFrom b i) = rw e at (h .rest) in
     makes-as (h .done) (rw (append-nil (x .bytes)) at u)
+
+-- the rest of a sequence, of the kind that its table has
+pub rest-made : (q : Sequence) {b a c : List ℕ} {i o k : ℕ} {r : Made} → k ≡ restOf q → Makes b a c i o (rKeep k (recordsFrom b i)) r → Makes b a c i o (rKeep (restOf q) (recordsFrom b i)) r
+rest-made q e m = rw e at m
+
+-- the components of a sequence and its rest
+module _ (s : Sequence) {b a c : List ℕ} {i o : ℕ} {r : Made} (m : Makes b a c i o (rRows (rowsOf s) (recordsFrom b i)) r) where
+  pub sequence-first : r ≡ Long → Makes b a c i o ((rRows (rowsOf s) next rKeep (restOf s)) (recordsFrom b i)) Long
+  sequence-first z = then-long (rRows (rowsOf s)) (rKeep (restOf s)) (recordsFrom b i) m z
+
+  pub sequence-second : {d : List ℕ} {n t : ℕ} {r1 : Made} → r ≡ Took n t → Makes b c d n t (rKeep (restOf s) (recordsFrom b n)) r1 → Makes b a d i o ((rRows (rowsOf s) next rKeep (restOf s)) (recordsFrom b i)) r1
+  sequence-second z x = then-took (rRows (rowsOf s)) (rKeep (restOf s)) (recordsFrom b i) m z x

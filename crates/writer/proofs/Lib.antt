@@ -3,7 +3,7 @@ pub mod ManyLaws
 pub mod LeafLaws
 pub mod MakeConditionLaws
 pub mod MakeCommonLaws
-pub mod MakeKindLaws
+pub mod MakeTypeLaws
 pub mod MakeObjectLaws
 pub mod MakeEntryLaws
 pub mod RenderLaws

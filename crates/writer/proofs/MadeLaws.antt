@@ -17,9 +17,9 @@ use Rattle.writer.specs.declared.made.Made.{Made}
 use Rattle.writer.specs.declared.made.Made.the-variants.{Took, Long}
 use Rattle.rules.specs.Reading.{Rec, rec}
 use Rattle.rules.specs.Files.{two}
-use Rattle.rules.specs.Render.{Rendered, gives, Renderer, _next_, within, when, from}
+use Rattle.rules.specs.Render.{Rendered, gives, Renderer, _next_, when, from}
 use Rattle.rules.specs.Book.{recordsFrom, Ends, nextIs}
-use Rattle.writer.specs.Making.{Walk, there, onto, Steps, Makes, makes, breaks, Moved, Wraps, wraps, over, Closed, Onward}
+use Rattle.writer.specs.Making.{Walk, there, onto, Steps, Makes, makes, breaks, Making, Onward, Moved, Opened, begins, lacks, Ended, Closed}
 
 -- a splice that fits is a put
 spliced : (a d x : List ℕ) (o p : ℕ) → p ≡ o + length x → p ≤ length a → d ≡ take o a ++ x ++ drop p a → Put a d o p x
@@ -119,24 +119,6 @@ wrap-length tag x = omega (arith, length-append (shortest (length x)) x)
 shortest-some : (n : ℕ) → 1 ≤ length (shortest n)
 shortest-some n = by-less n 128 (λ h. omega (arith, size-short n h)) (λ h. by-less n 256 (λ l. omega (arith, size-middle n h l)) (λ l. omega (arith, size-long n l)))
 
-module _ (c : List ℕ) (o tag n q : ℕ) {h : ℕ} (e : h ≡ 1 + length (shortest (q - (o + 2)))) where
-  contents : {a x : List ℕ} → Put a c (o + 2) q x → length x ≡ q - (o + 2)
-  contents f = omega (arith, f .at)
-
-  -- it does not fit
-  pub closed-long : length c < q + (h - 2) → 2 ≤ h → o + 2 ≤ q → Closed c c o tag n q Long
-  closed-long l m k = record { is = λ a x f g. over (let z : length x ≡ q - (o + 2) = contents f in let w = wrap-length tag x in let u : length (wrap tag x) ≡ h + length x = w ∙ rw (z, ← e) refl in omega (arith, put-length f, f .at)) (put-length f) }
-
-  -- it fits
-  pub closed-moved : {c′ d : List ℕ} {p : ℕ} → 2 ≤ h → q + (h - 2) ≤ length c → Moved c c′ (o + 2) q (h - 2) → Put c′ d o p (tag ∷ shortest (q - (o + 2))) → Closed c d o tag n q (Took n (q + (h - 2)))
-  unfolding wrap
-  closed-moved {c′} {d} {p} m l v g = record {
-    is = λ a x f k.
-        let z : length x ≡ q - (o + 2) = contents f in
-        let y = closed-up 2 (h - 2) (tag ∷ shortest (q - (o + 2))) f k (omega (arith, put-length f)) (omega arith) v g in
-        wraps (rw (← z) at y) (omega (arith, put-length f));
-  }
-
 -- record by record
 walk-then : {b : List ℕ} {i m n : ℕ} {rs ws : List Rec} → Walk b i m rs → Walk b m n ws → Walk b i n (rs ++ ws)
 walk-then there g = g
@@ -233,25 +215,92 @@ module _ (p q : Renderer) (rs : List Rec) {b a c : List ℕ} {i o : ℕ} {r : Ma
         go (makes l f e h) = makes l (put-put (made-put m z) f) (steps-then (made-steps m z) e) (omega (arith, makes-same m))
         go (breaks h e) = breaks {w = (p next q) rs} (omega (arith, made-put m z .at, makes-same m, length-append (p rs .bytes) (q (p rs .left) .bytes))) (e ∙ makes-same m)
 
-    -- nothing more is made
-    pub then-none : q (recordsFrom b n) ≡ gives [] (recordsFrom b n) → Makes b a c i o ((p next q) rs) (Took n t)
-    then-none e = then-took (makes-as (makes-none b c n t (made-high m z) (made-room m z)) (sym e))
+-- ---- what stands in front of contents
+module _ {len o k : ℕ} where
+  pub opened-begins : k ≤ len - o → Opened len o k (o + k)
+  opened-begins h = begins
 
--- an element around a part
-module _ (tag : ℕ) (p : Renderer) (rs : List Rec) where
-  pub within-short : {b a : List ℕ} {i o : ℕ} → length a < o + 2 → Makes b a a i o (within tag p rs) Long
-  within-short {b} {a} {i} {o} h = breaks {w = within tag p rs} (omega (arith, wrap-length tag (p rs .bytes), shortest-some (length (p rs .bytes)))) refl
+  pub opened-lacks : len - o < k → o ≤ len → Opened len o k len
+  opened-lacks h l = lacks (omega arith)
 
-  module _ {b a c : List ℕ} {i o : ℕ} {r : Made} (m : Makes b a c i (o + 2) (p rs) r) where
-    pub within-long : r ≡ Long → Makes b a c i o (within tag p rs) Long
-    within-long z = breaks {w = within tag p rs} (omega (arith, made-long m z, wrap-length tag (p rs .bytes), shortest-some (length (p rs .bytes)))) (makes-same m)
+  -- what does not fit does not fit with more in front
+  over : {r : ℕ} → Opened len o k r → (x y : ℕ) → len < r + x → k + x ≤ y → len < o + y
+  over begins x y h g = omega arith
+  over (lacks l) x y h g = omega arith
 
-    pub within-took : {d : List ℕ} {s : Made} {n q : ℕ} → r ≡ Took n q → Closed c d o tag n q s → Makes b a d i o (within tag p rs) s
-    within-took {d} {s} {n} {q} z k = go (k .is a (p rs .bytes) (made-put m z) (omega (arith, made-room m z, makes-same m)))
-      where
-        go : {s : Made} → Wraps a d o tag (p rs .bytes) n s → Makes b a d i o (within tag p rs) s
-        go (wraps f h) = makes (made-left m z) f (made-steps m z) h
-        go (over h e) = breaks h e
+  -- what ends before it should start has no room
+  before : {r : ℕ} → Opened len o k r → (q : ℕ) → r ≤ q → q < o + k → len < o + k
+  before begins q h l = absurd (omega arith)
+  before (lacks g) q h l = g
+
+  -- what ends behind starts where it should
+  behind : {r : ℕ} → Opened len o k r → (q : ℕ) → o + k ≤ q → q ≤ len → r ≡ o + k
+  behind begins q h l = refl
+  behind (lacks g) q h l = absurd (omega arith)
+
+pub made-ended : {b a c : List ℕ} {i o : ℕ} {w : Rendered} {m : Made} → Makes b a c i o w m → Ended (length c) m
+made-ended f = record { is = λ n q z. made-room f z }
+
+-- contents with what stands in front of them
+module _ {b a c d : List ℕ} {i o k r : ℕ} {f : List ℕ → List ℕ} {w : Rendered} {m s : Made} (h : Opened (length a) o k r) (g : Makes b a c i r w m) (e : Closed c d o k f m s) where
+  pub closed-made : Makes b a d i o (gives (f (w .bytes)) (w .left)) s
+  closed-made = e .is b a i r w h g
+
+  module _ {n q : ℕ} (z : s ≡ Took n q) where
+    pub closed-steps : Steps b i n
+    closed-steps = made-steps closed-made z
+
+    -- what comes next has its places
+    pub closed-next : length b ≤ 131072 → length a ≤ 32768 → Making b n d q
+    closed-next u v = (made-high closed-made z, u, made-room closed-made z, made-small closed-made v)
+
+module _ {c : List ℕ} {o k : ℕ} {f : List ℕ → List ℕ} (grows : (x : List ℕ) → k + length x ≤ length (f x)) {m : Made} where
+  pub closed-none : m ≡ Long → Closed c c o k f m Long
+  closed-none z = record { is = λ b a i r w h g. breaks {w = gives (f (w .bytes)) (w .left)} (over h (length (w .bytes)) (length (f (w .bytes))) (made-long g z) (grows (w .bytes))) (makes-same g) }
+
+  pub closed-short : {n q : ℕ} → m ≡ Took n q → q < o + k → Closed c c o k f m Long
+  closed-short {n} {q} z l = record { is = λ b a i r w h g. breaks {w = gives (f (w .bytes)) (w .left)} (omega (arith, before h q (made-from g z) l, grows (w .bytes))) (makes-same g) }
+
+pub contents : {b a c : List ℕ} {i o k r n q : ℕ} {w : Rendered} {m : Made} → Opened (length a) o k r → Makes b a c i r w m → m ≡ Took n q → o + k ≤ q → Put a c (o + k) q (w .bytes)
+contents {q = q} h g z l = rw (behind h q l (omega (arith, made-room g z, makes-same g))) at (made-put g z)
+
+-- an element's header
+pub wrap-grows : (tag : ℕ) (x : List ℕ) → 2 + length x ≤ length (wrap tag x)
+wrap-grows tag x = omega (arith, wrap-length tag x, shortest-some (length x))
+
+module _ (c : List ℕ) (o tag : ℕ) {m : Made} {n q h : ℕ} (z : m ≡ Took n q) (e : h ≡ 1 + length (shortest (q - (o + 2)))) (l : o + 2 ≤ q) where
+  -- it does not fit
+  pub closed-long : length c < q + (h - 2) → 2 ≤ h → Closed c c o 2 (wrap tag) m Long
+  closed-long s t = record {
+    is = λ b a i r w u g.
+        let f = contents u g z l in
+        let x : length (w .bytes) ≡ q - (o + 2) = omega (arith, f .at) in
+        let y : length (wrap tag (w .bytes)) ≡ h + length (w .bytes) = wrap-length tag (w .bytes) ∙ rw (x, ← e) refl in
+        breaks {w = gives (wrap tag (w .bytes)) (w .left)} (omega (arith, makes-same g, f .at)) (makes-same g);
+  }
+
+  -- it fits
+  pub closed-moved : {c′ d : List ℕ} {p : ℕ} → 2 ≤ h → q + (h - 2) ≤ length c → Moved c c′ (o + 2) q (h - 2) → Put c′ d o p (tag ∷ shortest (q - (o + 2))) → Closed c d o 2 (wrap tag) m (Took n (q + (h - 2)))
+  unfolding wrap
+  closed-moved {c′} {d} {p} t s v k = record {
+    is = λ b a i r w u g.
+        let f = contents u g z l in
+        let x : length (w .bytes) ≡ q - (o + 2) = omega (arith, f .at) in
+        let y = closed-up 2 (h - 2) (tag ∷ shortest (q - (o + 2))) f (omega (arith, makes-same g)) (omega (arith, makes-same g)) (omega arith) v k in
+        makes {w = gives (wrap tag (w .bytes)) (w .left)} (made-left g z) (rw (← x) at y) (made-steps g z) (omega (arith, makes-same g));
+  }
+
+-- contents with their header
+pub within-made : (tag : ℕ) (x : List ℕ) (l : List Rec) {b a c d : List ℕ} {i o r : ℕ} {m s : Made} → Opened (length a) o 2 r → Makes b a c i r (gives x l) m → Closed c d o 2 (wrap tag) m s → Makes b a d i o (gives (wrap tag x) l) s
+within-made tag x l h g e = closed-made h g e
+
+-- an element takes what its contents take
+pub closed-onward : (tag : ℕ) {b a c d : List ℕ} {i o r : ℕ} {w : Rendered} {m s : Made} → Opened (length a) o 2 r → Makes b a c i r w m → Onward b i m → Closed c d o 2 (wrap tag) m s → Onward b i s
+closed-onward tag {b} {a} {c} {d} {i} {o} {r} {w} {m} {s} h g u e = record { is = λ n q z. go g u (closed-made h g e) z }
+  where
+    go : {w : Rendered} {m : Made} {n q : ℕ} → Makes b a c i r w m → Onward b i m → Makes b a d i o (gives (wrap tag (w .bytes)) (w .left)) s → s ≡ Took n q → length (recordsFrom b n) < length (recordsFrom b i)
+    go (makes {n = x} {q = y} l _ _ _) u v z = rw (sym (made-left v z) ∙ l) (u .is x y refl)
+    go (breaks {w} l _) u v z = absurd (omega (arith, made-put v z .at, made-room v z, makes-same v, over h (length (w .bytes)) (length (wrap tag (w .bytes))) l (wrap-grows tag (w .bytes))))
 
 -- by the next record
 module _ (k : ℕ) (p : Renderer) (b : List ℕ) (i : ℕ) {t : Bool} (e : t ≡ nextIs k (recordsFrom b i)) where
@@ -289,15 +338,22 @@ pub from-some : (f : ℕ → List ℕ → Renderer) {b a c : List ℕ} {i e o : 
 from-some f h m = rw (h .is) (makes-behind h m)
 
 -- bytes that are put for one record
-pub puts-took : {b a c : List ℕ} {e o q : ℕ} {x : List ℕ} → Put a c o q x → e ≤ length b → q ≤ length a → Makes b a c e o (gives x (recordsFrom b e)) (Took e q)
-puts-took {b} {a} {c} {e} f h l = makes refl f (steps-none b e h) l
+module _ {b a c : List ℕ} {o q : ℕ} {x : List ℕ} (f : Put a c o q x) where
+  pub puts-took : {e : ℕ} → e ≤ length b → q ≤ length c → Makes b a c e o (gives x (recordsFrom b e)) (Took e q)
+  puts-took {e} h l = makes refl f (steps-none b e h) (omega (arith, put-length f))
 
-pub puts-long : {b a c : List ℕ} {i o q : ℕ} {x : List ℕ} (rs : List Rec) → Put a c o q x → length a < q → Makes b a c i o (gives x rs) Long
-puts-long {x = x} rs f l = breaks {w = gives x rs} (omega (arith, f .at)) (put-length f)
+  pub puts-long : (i : ℕ) (rs : List Rec) → length c < q → Makes b a c i o (gives x rs) Long
+  puts-long i rs l = breaks {w = gives x rs} (omega (arith, f .at, put-length f)) (put-length f)
+
+-- bytes that are put, then a part
+pub put-made : {b a c d : List ℕ} {i o q : ℕ} {x : List ℕ} {w : Rendered} {r : Made} → Put a c o q x → Makes b c d i q w r → Makes b a d i o (gives (x ++ w .bytes) (w .left)) r
+put-made f (makes l g s h) = makes l (put-put f g) s (omega (arith, put-length f))
+put-made {x = x} f (breaks {w} h e) = breaks {w = gives (x ++ w .bytes) (w .left)} (omega (arith, f .at, put-length f, length-append x (w .bytes))) (e ∙ put-length f)
 
 -- at least one record is taken
 pub onward-one : {b : List ℕ} {i e : ℕ} {r : Made} → Ends b i e → ((n q : ℕ) → r ≡ Took n q → Steps b e n) → Onward b i r
 onward-one {b} {i} {e} h s = record { is = λ n q z. rw (h .is) (omega (arith, steps-fewer (s n q z))) }
 
-pub onward-long : {b : List ℕ} {i : ℕ} → Onward b i Long
-onward-long = record { is = λ n q z. absurd (let y : _≡_ {A = ℕ} 0 1 = cc in omega arith) }
+-- so does an element with what is behind the next record
+pub onward-closed : {b a c d : List ℕ} {i e o k r : ℕ} {f : List ℕ → List ℕ} {w : Rendered} {m s : Made} → Ends b i e → Opened (length a) o k r → Makes b a c e r w m → Closed c d o k f m s → Onward b i s
+onward-closed h t g u = onward-one h (λ n q z. closed-steps t g u z)

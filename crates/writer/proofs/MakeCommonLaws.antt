@@ -1,5 +1,5 @@
 -- Rules and common attributes as they are made: the ways through their code.
-use Prim.Native.Nat.{ℕ, zero, suc, _+_, _<_, _≤_}
+use Prim.Native.Nat.{ℕ, zero, suc, _<_, _≤_}
 use mathlib.Core.Path.{_≡_, sym, _∙_}
 use mathlib.Core.Bool.{Bool, true, false}
 use mathlib.Core.List.{List, [], _∷_}
@@ -13,8 +13,8 @@ use Rattle.rules.specs.Reading.{Rec, count}
 use Rattle.rules.specs.Tables.{ruleRows, commonRows, mark, kindOf, sortBy}
 use Rattle.rules.specs.Render.{Renderer, _next_, within, when, rRow, rRows, rKeep, rAll, rConditionAs, rCondition, rRule, rCommon}
 use Rattle.rules.specs.Book.{recordsFrom, nextIs}
-use Rattle.writer.specs.Making.{Makes, Closed}
-use Rattle.writer.proofs.MadeLaws.{made-left, within-short, within-long, within-took, when-yes, when-no}
+use Rattle.writer.specs.Making.{Makes}
+use Rattle.writer.proofs.MadeLaws.{made-left, when-yes, when-no}
 use Rattle.writer.proofs.ManyLaws.{Fewer, next-fewer, from-fewer, keep-fewer, times-fewer, three-first, three-second, three-third, Repeating, repeating-next}
 use Rattle.rules.specs.Layouts as layouts
 use Rattle.rules.specs.Conditions as conditions
@@ -62,21 +62,6 @@ module _ {b a c : List ℕ} {i o : ℕ} {r : Made} (m : Makes b a c i o (rRows r
     pub rule-third : {e : List ℕ} {x y : ℕ} {v : Made} → u ≡ Took x y → Makes b d e x y (rKeep 0x012c (recordsFrom b x)) v → Makes b a e i o (Contents (recordsFrom b i)) v
     rule-third w l = three-third (rRows ruleRows) (rCondition 8) (rKeep 0x012c) m z k w l
 
--- ---- a rule
-module _ (b : List ℕ) (i : ℕ) {a : List ℕ} {o : ℕ} where
-  pub rule-short : length a < o + 2 → Makes b a a i o (rRule (recordsFrom b i)) Long
-  unfolding layouts.rule
-  rule-short h = within-short 0x30 Contents (recordsFrom b i) h
-
-  module _ {c : List ℕ} {r : Made} (m : Makes b a c i (o + 2) (Contents (recordsFrom b i)) r) where
-    pub rule-long : r ≡ Long → Makes b a c i o (rRule (recordsFrom b i)) Long
-    unfolding layouts.rule
-    rule-long z = within-long 0x30 Contents (recordsFrom b i) m z
-
-    pub rule-took : {d : List ℕ} {s : Made} {n q : ℕ} → r ≡ Took n q → Closed c d o 0x30 n q s → Makes b a d i o (rRule (recordsFrom b i)) s
-    unfolding layouts.rule
-    rule-took z k = within-took 0x30 Contents (recordsFrom b i) m z k
-
 -- ---- rules
 module _ {b : List ℕ} {n : ℕ} {y : Bool} (e : y ≡ nextIs 0x0125 (recordsFrom b n)) (v : y ≡ true) {c d : List ℕ} {t : ℕ} {r : Made} (m : Makes b c d n t (rRule (recordsFrom b n)) r) {x u : ℕ} (z : r ≡ Took x u) where
   pub rules-less : length (recordsFrom b x) < length (recordsFrom b n)
@@ -84,17 +69,6 @@ module _ {b : List ℕ} {n : ℕ} {y : Bool} (e : y ≡ nextIs 0x0125 (recordsFr
 
   pub rules-next : {a : List ℕ} {i o : ℕ} → Repeating b 0x0125 rRule a c i o n t → Repeating b 0x0125 rRule a d i o x u
   rules-next h = repeating-next h e v m z rules-less
-
-module _ (b : List ℕ) (i : ℕ) {a : List ℕ} {o : ℕ} where
-  pub rules-short : length a < o + 2 → Makes b a a i o (Rules (recordsFrom b i)) Long
-  rules-short h = within-short 0x30 (rAll (mark ruleRows) rRule) (recordsFrom b i) h
-
-  module _ {c : List ℕ} {r : Made} (m : Makes b a c i (o + 2) (rAll (mark ruleRows) rRule (recordsFrom b i)) r) where
-    pub rules-long : r ≡ Long → Makes b a c i o (Rules (recordsFrom b i)) Long
-    rules-long z = within-long 0x30 (rAll (mark ruleRows) rRule) (recordsFrom b i) m z
-
-    pub rules-took : {d : List ℕ} {s : Made} {n q : ℕ} → r ≡ Took n q → Closed c d o 0x30 n q s → Makes b a d i o (Rules (recordsFrom b i)) s
-    rules-took z k = within-took 0x30 (rAll (mark ruleRows) rRule) (recordsFrom b i) m z k
 
 -- ---- rules where they may stand
 module _ (b : List ℕ) (i : ℕ) {y : Bool} (e : y ≡ nextIs 0x0125 (recordsFrom b i)) where

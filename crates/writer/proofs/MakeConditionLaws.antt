@@ -1,14 +1,12 @@
 -- Conditions as they are made: the ways through their code.
 use Prim.Native.Nat.{ℕ, zero, suc, _+_, _-_, _<_, _≤_}
 use mathlib.Core.Path.{_≡_, refl, sym, _∙_}
-use mathlib.Core.List.{List, [], _∷_}
+use mathlib.Core.List.{List, []}
 use native.Mathlib.Omega.{arith}
 use lib.ListN.{length}
-use lib.Seq.{slice, slice-empty, length-slice}
+use lib.Seq.{slice, slice-empty}
 use borrow.Author.Tests.{ne-eqb}
-use Rattle.elements.specs.Length.{shortest, wrap}
-use Rattle.elements.specs.Put.{Put}
-use Rattle.elements.specs.PutLaws.{put-then, put-length}
+use Rattle.elements.specs.Length.{wrap}
 use Rattle.writer.specs.declared.made.Made.{Made}
 use Rattle.writer.specs.declared.made.Made.the-variants.{Took, Long}
 use Rattle.rules.specs.declared.table.Sort.{Sort}
@@ -18,9 +16,9 @@ use Rattle.rules.specs.Files.{two}
 use Rattle.rules.specs.Tables.{kindOf, sortBy}
 use Rattle.rules.specs.Render.{gives, Renderer, _next_, within, from, rTimes, rConditionAs, rCondition}
 use Rattle.rules.specs.Book.{recordsFrom, Ends}
-use Rattle.writer.specs.Making.{Makes, Closed}
+use Rattle.writer.specs.Making.{Makes}
 use Rattle.rules.specs.BookLaws.{from-few}
-use Rattle.writer.proofs.MadeLaws.{makes-none, makes-as, makes-same, made-high, made-room, then-long, then-took, within-short, within-long, within-took, from-some, puts-took, puts-long}
+use Rattle.writer.proofs.MadeLaws.{makes-none, makes-as, makes-same, made-high, made-room, then-long, then-took, from-some}
 use Rattle.rules.specs.Conditions as conditions
 
 -- ---- the sort that has a kind
@@ -48,26 +46,6 @@ module _ (k : ℕ) where
   pub kind-other : (k ≡ 0x0126 → ⊥) → (k ≡ 0x0127 → ⊥) → (k ≡ 0x0129 → ⊥) → (k ≡ 0x012a → ⊥) → (k ≡ 0x012b → ⊥) → Other ≡ sortBy kindOf k
   unfolding sortBy
   kind-other a b c d e = rw (ne-eqb k 0x0126 a, ne-eqb k 0x0127 b, ne-eqb k 0x0129 c, ne-eqb k 0x012a d, ne-eqb k 0x012b e) refl
-
--- ---- bytes that are put
-module _ (b : List ℕ) (e : ℕ) {a c : List ℕ} {o q : ℕ} {x : List ℕ} (f : Put a c o q x) where
-  pub bytes-took : e ≤ length b → q ≤ length c → Makes b a c e o (gives x (recordsFrom b e)) (Took e q)
-  bytes-took h l = puts-took f h (omega (arith, put-length f))
-
-  pub bytes-long : length c < q → Makes b a c e o (gives x (recordsFrom b e)) Long
-  bytes-long l = puts-long (recordsFrom b e) f (omega (arith, put-length f))
-
--- ---- an element with bytes of the book
-module _ (b : List ℕ) (e tag p t : ℕ) {a m c : List ℕ} {o s q : ℕ} (f : Put a m o s (tag ∷ shortest (t - p))) (g : Put m c s q (slice p t b)) (h : t ≤ length b) where
-  element-put : Put a c o q (wrap tag (slice p t b))
-  unfolding wrap
-  element-put = put-then f g (rw (length-slice p t b h) refl)
-
-  pub element-took : e ≤ length b → q ≤ length c → Makes b a c e o (gives (wrap tag (slice p t b)) (recordsFrom b e)) (Took e q)
-  element-took i l = bytes-took b e element-put i l
-
-  pub element-long : length c < q → Makes b a c e o (gives (wrap tag (slice p t b)) (recordsFrom b e)) Long
-  element-long l = bytes-long b e element-put l
 
 -- ---- a condition, by its record
 abbrev Inner : ℕ → Renderer
@@ -100,15 +78,15 @@ module _ (b : List ℕ) (levels : ℕ) {i : ℕ} where
 
 -- ---- a condition of a sort
 module _ (b : List ℕ) (levels p i : ℕ) {y : Sort} {a c : List ℕ} {o : ℕ} {r : Made} where
-  pub as-always : y ≡ Always → Makes b a c i o (gives (wrap 5 (slice p p b)) (recordsFrom b i)) r → Makes b a c i o (rConditionAs levels y (slice p i b) (recordsFrom b i)) r
+  pub as-always : y ≡ Always → Makes b a c i o (gives (wrap 5 (slice i i b)) (recordsFrom b i)) r → Makes b a c i o (rConditionAs levels y (slice p i b) (recordsFrom b i)) r
   unfolding rConditionAs
-  as-always z m = rw z (rw (slice-empty p b) at m)
+  as-always z m = rw z (rw (slice-empty i b) at m)
 
   pub as-identifier : y ≡ Identifier → Makes b a c i o (gives (wrap 4 (slice p i b)) (recordsFrom b i)) r → Makes b a c i o (rConditionAs levels y (slice p i b) (recordsFrom b i)) r
   unfolding rConditionAs
   as-identifier z m = rw z m
 
-  pub as-not : y ≡ Not → Makes b a c i o (rConditionAs levels Not [] (recordsFrom b i)) r → Makes b a c i o (rConditionAs levels y (slice p i b) (recordsFrom b i)) r
+  pub as-not : y ≡ Not → Makes b a c i o (within 0xa0 (Inner levels) (recordsFrom b i)) r → Makes b a c i o (rConditionAs levels y (slice p i b) (recordsFrom b i)) r
   unfolding rConditionAs
   as-not z m = rw z m
 
@@ -124,33 +102,6 @@ module _ (b : List ℕ) (levels p i : ℕ) {y : Sort} {a c : List ℕ} {o : ℕ}
   pub as-other : y ≡ Other → Makes b a c i o (gives (slice p i b) (recordsFrom b i)) r → Makes b a c i o (rConditionAs levels y (slice p i b) (recordsFrom b i)) r
   unfolding rConditionAs
   as-other z m = rw z m
-
--- ---- "A0 not, one inside"
-module _ (b : List ℕ) (levels i : ℕ) {a : List ℕ} {o : ℕ} where
-  pub not-short : length a < o + 2 → Makes b a a i o (rConditionAs levels Not [] (recordsFrom b i)) Long
-  unfolding rConditionAs
-  not-short h = within-short 0xa0 (Inner levels) (recordsFrom b i) h
-
-  module _ {c : List ℕ} {r : Made} (m : Makes b a c i (o + 2) (rCondition levels (recordsFrom b i)) r) where
-    pub not-long : r ≡ Long → Makes b a c i o (rConditionAs levels Not [] (recordsFrom b i)) Long
-    unfolding rConditionAs
-    not-long z = within-long 0xa0 (Inner levels) (recordsFrom b i) m z
-
-    pub not-took : {d : List ℕ} {s : Made} {n q : ℕ} → r ≡ Took n q → Closed c d o 0xa0 n q s → Makes b a d i o (rConditionAs levels Not [] (recordsFrom b i)) s
-    unfolding rConditionAs
-    not-took z k = within-took 0xa0 (Inner levels) (recordsFrom b i) m z k
-
--- ---- a list
-module _ (b : List ℕ) (levels tag k i : ℕ) {a : List ℕ} {o : ℕ} where
-  pub list-short : length a < o + 2 → Makes b a a i o (within tag (rTimes k (Inner levels)) (recordsFrom b i)) Long
-  list-short h = within-short tag (rTimes k (Inner levels)) (recordsFrom b i) h
-
-  module _ {c : List ℕ} {r : Made} (m : Makes b a c i (o + 2) (rTimes k (Inner levels) (recordsFrom b i)) r) where
-    pub list-long : r ≡ Long → Makes b a c i o (within tag (rTimes k (Inner levels)) (recordsFrom b i)) Long
-    list-long z = within-long tag (rTimes k (Inner levels)) (recordsFrom b i) m z
-
-    pub list-took : {d : List ℕ} {s : Made} {n q : ℕ} → r ≡ Took n q → Closed c d o tag n q s → Makes b a d i o (within tag (rTimes k (Inner levels)) (recordsFrom b i)) s
-    list-took z g = within-took tag (rTimes k (Inner levels)) (recordsFrom b i) m z g
 
 -- ---- so many conditions
 -- where one makes nothing, so do many

@@ -12,21 +12,13 @@ use Rattle.rules.specs.declared.table.Class.the-variants.{Keys, Certificates, C
 use Rattle.rules.specs.declared.table.Sequence.{Sequence}
 use Rattle.rules.specs.declared.table.ObjectType.{ObjectType}
 use Rattle.rules.specs.Tables.{rowsOf, keyRows, certificateRows, authenticationRows, classOf, typeOf}
-use Rattle.rules.specs.Render.{Rendered, Renderer, _next_, within, when, plain, rRows, rKeep, rCommon, rClass, rType, rContents, rObject, rObjects}
+use Rattle.rules.specs.Render.{Renderer, _next_, within, when, plain, rRows, rKeep, rCommon, rClass, rType, rContents, rObject, rObjects}
 use Rattle.rules.specs.Book.{recordsFrom, nextIs, Ends}
-use Rattle.writer.specs.Making.{Makes, Onward}
-use Rattle.writer.proofs.MadeLaws.{then-long, then-took, from-some, made-steps, onward-one}
+use Rattle.writer.specs.Making.{Makes}
+use Rattle.writer.proofs.MadeLaws.{then-long, then-took, from-some}
 use Rattle.writer.proofs.ManyLaws.{three-first, three-second, three-third, Repeating, repeating-all, repeating-long}
 use Rattle.rules.specs.Layouts as layouts
 use Rattle.rules.specs.Entries as entries
-
--- the components of a sequence and its rest
-module _ (s : Sequence) (kind : ℕ) {b a c : List ℕ} {i o : ℕ} {r : Made} (m : Makes b a c i o (rRows (rowsOf s) (recordsFrom b i)) r) where
-  pub sequence-first : r ≡ Long → Makes b a c i o ((rRows (rowsOf s) next rKeep kind) (recordsFrom b i)) Long
-  sequence-first z = then-long (rRows (rowsOf s)) (rKeep kind) (recordsFrom b i) m z
-
-  pub sequence-second : {d : List ℕ} {n t : ℕ} {r1 : Made} → r ≡ Took n t → Makes b c d n t (rKeep kind (recordsFrom b n)) r1 → Makes b a d i o ((rRows (rowsOf s) next rKeep kind) (recordsFrom b i)) r1
-  sequence-second z x = then-took (rRows (rowsOf s)) (rKeep kind) (recordsFrom b i) m z x
 
 -- a class
 module _ {b a c : List ℕ} {i o : ℕ} {r : Made} {x : Class} where
@@ -82,9 +74,6 @@ module _ {b : List ℕ} {i e : ℕ} (h : Ends b i e) where
   pub object-made : {a c : List ℕ} {o x y : ℕ} {r : Made} → x ≡ getD (slice (i + 4) e b) 0 0 → y ≡ getD (slice (i + 4) e b) 1 0 → Makes b a c e o (within y (rContents x y) (recordsFrom b e)) r → Makes b a c i o (rObject (recordsFrom b i)) r
   unfolding rObject entries.object
   object-made p q m = from-some (λ k p. within (getD p 1 0) (rContents (getD p 0 0) (getD p 1 0))) h (rw (p, q) at m)
-
-  pub object-onward : {a c : List ℕ} {o : ℕ} {w : Rendered} {r : Made} → Makes b a c e o w r → Onward b i r
-  object-onward m = onward-one h (λ n q z. made-steps m z)
 
 -- objects
 module _ {b a c : List ℕ} {i o j p : ℕ} (m : Repeating b 0x0120 rObject a c i o j p) {t : Bool} (e : t ≡ nextIs 0x0120 (recordsFrom b j)) where

@@ -18,37 +18,32 @@ use Rattle.rules.specs.Reading.{Rec, rec}
 use Rattle.rules.specs.Files.{Name, two, namesOf}
 use Rattle.rules.specs.Book.{records, recordsFrom, Ends}
 use Rattle.rules.specs.Render.{Rendered, gives, rCia, rOd, rDirectory, rDirectories, framing, used, render}
-use Rattle.writer.specs.Making.{Walk, there, onto, Steps, Makes, makes, breaks, Fronted, Fitted, fits, beyond, names, Named, FileMade, FilesMade, TwoMade}
+use Rattle.writer.specs.Making.{Walk, there, onto, Steps, Makes, makes, breaks, Opened, begins, Ended, Closed, Fitted, fits, beyond, names, Named, FileMade, FilesMade, TwoMade}
 use Rattle.writer.proofs.MakeEntryLaws.{tail-some}
-use Rattle.writer.proofs.MadeLaws.{closed-up, moved-same, makes-same, made-put, made-left, made-room, made-steps, made-long, made-high}
+use Rattle.writer.proofs.MadeLaws.{closed-up, moved-same, contents, closed-made, put-made, makes-same, made-put, made-left, made-room, made-steps, made-long, made-high}
 
 -- a dump record around contents
 framing-length : (k : ℕ) (x : List ℕ) → length (framing k x) ≡ 4 + length x
 unfolding framing recordBytes
 framing-length k x = omega arith
 
-pub fronted : (c : List ℕ) (o k q : ℕ) {c′ d : List ℕ} {p p′ : ℕ} → o + 4 ≤ q → q ≤ length c → Put c c′ o p (le16 (q - (o + 4) + 2)) → Put c′ d p p′ (le16 k) → Fronted c d o k q
+pub framing-grows : (k : ℕ) (x : List ℕ) → 4 + length x ≤ length (framing k x)
+framing-grows k x = omega (arith, framing-length k x)
+
+pub fronted : (c : List ℕ) (o k : ℕ) {m : Made} {n q : ℕ} {c′ d : List ℕ} {p p′ : ℕ} → Ended (length c) m → m ≡ Took n q → o + 4 ≤ q → Put c c′ o p (le16 (q - (o + 4) + 2)) → Put c′ d p p′ (le16 k) → Closed c d o 4 (framing k) m (Took n q)
 unfolding framing recordBytes
-fronted c o k q {c′} {d} {p} {p′} h l f g = record {
-  is = λ a x u v.
-      let z : q - (o + 4) ≡ length x = omega (arith, u .at) in
-      let w : q + 0 ≡ q = omega arith in
-      let y = closed-up 4 0 (le16 (q - (o + 4) + 2) ++ le16 k) u v (omega arith) (omega arith) (moved-same c (o + 4) q 0 refl h (omega arith)) (put-put f g) in
-      rw (w, z) at y;
+fronted c o k {m} {n} {q} {c′} {d} {p} {p′} l z h f g = record {
+  is = λ b a i r w t e.
+      let u = contents t e z h in
+      let s : q ≤ length a = omega (arith, l .is n q z, makes-same e) in
+      let x : q - (o + 4) ≡ length (w .bytes) = omega (arith, u .at) in
+      let v : q + 0 ≡ q = omega arith in
+      let y = closed-up 4 0 (le16 (q - (o + 4) + 2) ++ le16 k) u s (omega arith) (omega arith) (moved-same c (o + 4) q 0 refl h (omega (arith, l .is n q z))) (put-put f g) in
+      makes {w = gives (framing k (w .bytes)) (w .left)} (made-left e z) (rw (v, x) at y) (made-steps e z) s;
 }
 
-module _ (k : ℕ) (w : Rendered) {b a : List ℕ} {i o : ℕ} where
-  pub front-short : length a < o + 4 → Makes b a a i o (gives (framing k (w .bytes)) (w .left)) Long
-  front-short h = breaks {w = gives (framing k (w .bytes)) (w .left)} (omega (arith, framing-length k (w .bytes))) refl
-
-  module _ {c : List ℕ} {r : Made} (m : Makes b a c i (o + 4) w r) where
-    pub front-long : r ≡ Long → Makes b a c i o (gives (framing k (w .bytes)) (w .left)) Long
-    front-long z = breaks {w = gives (framing k (w .bytes)) (w .left)} (omega (arith, made-long m z, framing-length k (w .bytes))) (makes-same m)
-
-    pub front-took : {d : List ℕ} {n q : ℕ} → r ≡ Took n q → Fronted c d o k q → Makes b a d i o (gives (framing k (w .bytes)) (w .left)) (Took n q)
-    front-took {d} {n} {q} z f =
-        let l : q ≤ length a = omega (arith, made-room m z, makes-same m) in
-        makes {w = gives (framing k (w .bytes)) (w .left)} (made-left m z) (f .is a (w .bytes) (made-put m z) l) (made-steps m z) l
+pub framing-made : (k : ℕ) (w : Rendered) {b a c d : List ℕ} {i o r : ℕ} {m s : Made} → Opened (length a) o 4 r → Makes b a c i r w m → Closed c d o 4 (framing k) m s → Makes b a d i o (gives (framing k (w .bytes)) (w .left)) s
+framing-made k w h g e = closed-made h g e
 
 -- whether a record names a path
 module _ (b : List ℕ) (j e : ℕ) where
@@ -76,17 +71,8 @@ module _ (b : List ℕ) (j e i o : ℕ) {a c : List ℕ} {p : ℕ} (f : Named b 
   pub file-short : length c < p → FileMade b a c j e i o Long
   file-short h = record { is = breaks {w = gives (framing 3 (fileBytes b j e i)) (rDirectory (recordsFrom b i) .left)} (omega (arith, f .is .at, put-length (f .is), file-length b j e i)) (put-length (f .is)) }
 
-  module _ {d : List ℕ} {r : Made} (m : Makes b c d i p (rDirectory (recordsFrom b i)) r) where
-    pub file-long : r ≡ Long → FileMade b a d j e i o Long
-    file-long z = record { is = breaks {w = gives (framing 3 (fileBytes b j e i)) (rDirectory (recordsFrom b i) .left)} (omega (arith, made-long m z, f .is .at, put-length (f .is), file-length b j e i)) (makes-same m ∙ put-length (f .is)) }
-
-    pub file-took : {g : List ℕ} {n q : ℕ} → r ≡ Took n q → Fronted d g o 3 q → FileMade b a g j e i o (Took n q)
-    file-took {g} {n} {q} z k =
-        let l : q ≤ length a = omega (arith, made-room m z, makes-same m, put-length (f .is)) in
-        record { is = makes {w = gives (framing 3 (fileBytes b j e i)) (rDirectory (recordsFrom b i) .left)} (made-left m z) (k .is a (fileBytes b j e i) (put-put (f .is) (made-put m z)) l) (made-steps m z) l }
-
-    pub file-behind : {n q : ℕ} → r ≡ Took n q → o + 4 ≤ q
-    file-behind z = omega (arith, made-put m z .at, f .is .at)
+  pub file-made : {d g : List ℕ} {m s : Made} → Makes b c d i p (rDirectory (recordsFrom b i)) m → Closed d g o 4 (framing 3) m s → FileMade b a g j e i o s
+  file-made m k = record { is = closed-made begins (put-made (f .is) m) k }
 
 -- a record ends in one place
 rec-pay : {k k′ : ℕ} {p p′ : List ℕ} {rs ws : List Rec} → rec k p ∷ rs ≡ rec k′ p′ ∷ ws → p ≡ p′

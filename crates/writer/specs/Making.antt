@@ -6,14 +6,13 @@ use mathlib.Core.Bool.{Bool, _&&_}
 use lib.ListN.{length, getD, take, drop}
 use lib.Seq.{slice}
 use lib.Dec.{leb, eqb}
-use Rattle.elements.specs.Length.{wrap}
 use Rattle.elements.specs.Put.{Put}
 use Rattle.writer.specs.declared.made.Made.{Made}
 use Rattle.writer.specs.declared.made.Made.the-variants.{Took, Long}
 use Rattle.rules.specs.Reading.{Rec, rec}
 use Rattle.rules.specs.Files.{two, namesOf}
 use Rattle.rules.specs.Book.{recordsFrom, Ends}
-use Rattle.rules.specs.Render.{Rendered, gives, within, rInside, rOd, rDirectory, rDirectories, framing, used}
+use Rattle.rules.specs.Render.{Rendered, gives, rOd, rDirectory, rDirectories, framing, used}
 
 -- from i to n record by record
 pub data Walk (b : List ℕ) : ℕ → ℕ → List Rec → Type 0 where
@@ -45,26 +44,22 @@ pub record Onward (b : List ℕ) (i : ℕ) (r : Made) : Type 0 where
 pub record Moved (c d : List ℕ) (from to by : ℕ) : Type 0 where
   pub is : d ≡ take (from + by) c ++ slice from to c ++ drop (to + by) c
 
--- an element of x, from o on, fits, or does not; the records from n on are left
-pub data Wraps (a d : List ℕ) (o tag : ℕ) (x : List ℕ) (n : ℕ) : Made → Type 0 where
-  wraps : {p : ℕ} → Put a d o p (wrap tag x) → p ≤ length a → Wraps a d o tag x n (Took n p)
-  over : length a < o + length (wrap tag x) → length d ≡ length a → Wraps a d o tag x n Long
+-- contents with k bytes in front of them, from o on, start at r: behind these bytes, or at the end where there is no room for them
+pub data Opened (len o k : ℕ) : ℕ → Type 0 where
+  begins : Opened len o k (o + k)
+  lacks : len < o + k → Opened len o k len
 
--- c holds contents from o + 2 to q; the header goes in front of them
-pub record Closed (c d : List ℕ) (o tag n q : ℕ) (r : Made) : Type 0 where
-  pub is : (a x : List ℕ) → Put a c (o + 2) q x → q ≤ length a → Wraps a d o tag x n r
+-- what was made ends inside
+pub record Ended (len : ℕ) (m : Made) : Type 0 where
+  pub is : (n q : ℕ) → m ≡ Took n q → q ≤ len
+
+-- c holds contents m, with room for k bytes in front of them from o on; s is f of them, made from o on into d
+pub record Closed (c d : List ℕ) (o k : ℕ) (f : List ℕ → List ℕ) (m s : Made) : Type 0 where
+  pub is : (b a : List ℕ) (i r : ℕ) (w : Rendered) → Opened (length a) o k r → Makes b a c i r w m → Makes b a d i o (gives (f (w .bytes)) (w .left)) s
 
 -- an entry's own bytes start at r
 pub record Tail (i e r : ℕ) : Type 0 where
   pub is : (b : List ℕ) → e ≤ length b → drop 2 (slice (i + 4) e b) ≡ slice r e b
-
--- an entry with a tag of ours, whose record reaches from i to e
-pub record KnownMade (b a c : List ℕ) (i e o : ℕ) (r : Made) : Type 0 where
-  pub is : Makes b a c i o (within (getD (slice (i + 4) e b) 0 0) rInside (recordsFrom b i)) r
-
--- contents stand from o + 4 to q in c; a dump record's length and kind go in front of them
-pub record Fronted (c d : List ℕ) (o kind q : ℕ) : Type 0 where
-  pub is : (a x : List ℕ) → Put a c (o + 4) q x → q ≤ length a → Put a d o q (framing kind x)
 
 -- x from o on fits, or does not
 pub data Fitted (a c : List ℕ) (o : ℕ) (x : List ℕ) : Made → Type 0 where

@@ -1,5 +1,6 @@
 use crate::made::Made;
 use crate::made::closed;
+use crate::made::opened;
 use elements::Form;
 use elements::put_boolean;
 use elements::put_flags;
@@ -8,18 +9,21 @@ use elements::put_part;
 use rules::Row;
 use rules::Sequence;
 use rules::byte_at;
+use rules::count_of;
 use rules::is_next;
 use rules::of_two;
 use rules::record_end;
+use rules::rest_of;
 use rules::row_of;
 ghost use mathlib.Core.Path.{_≡_};
 ghost use Prim.Native.Nat.{_+_, _*_, _^_, _≤_, _<_};
 ghost use lib.ListN.{length, getD, drop, replicate};
 ghost use lib.Seq.{slice};
+ghost use Rattle.elements.specs.Length.{wrap};
 ghost use Rattle.elements.specs.Put.{Put};
 ghost use Rattle.rules.specs.Reading.{count, number};
-ghost use Rattle.rules.specs.Tables.{rowsOf};
-ghost use Rattle.rules.specs.Render.{gives, within, from, plain, unvalue, rRow, rRows, rKeep, rFill};
+ghost use Rattle.rules.specs.Tables.{rowsOf, restOf};
+ghost use Rattle.rules.specs.Render.{_next_, gives, from, plain, unvalue, rRow, rRows, rKeep, rFill};
 ghost use Rattle.rules.specs.Book.{recordsFrom};
 ghost use Rattle.writer.specs.Making.{Making, Makes};
 
@@ -72,6 +76,27 @@ fn put_value(b: &[u8], p: usize, e: usize, form: Form, out: &mut [u8], o: usize)
         Form::Time => put_part(out, o, b, p, e),
         Form::Null => put_part(out, o, b, p, e),
     }
+}
+
+// The bytes of b from p to e as they are; the next record starts at e.
+pub fn make_part(b: &[u8], p: usize, e: usize, out: &mut [u8], o: usize) -> Made
+    requires { ⌜ (p ≤ e) × Making (now b) e (now out) o ⌝ }
+    ensures { λ r. ⌜ Makes (now (b .entry)) (now (out .entry)) (now (out .exit)) e o (gives (slice p e (now (b .entry))) (recordsFrom (now (b .entry)) e)) r ⌝ }
+{
+    let q = put_part(out, o, b, p, e);
+    if out.len() < q {
+        return Made::Long;
+    }
+    Made::Took(e, q)
+}
+
+// An element with these bytes.
+pub fn part_element(b: &[u8], p: usize, e: usize, tag: u8, out: &mut [u8], o: usize) -> Made
+    requires { ⌜ (p ≤ e) × Making (now b) e (now out) o ⌝ }
+    ensures { λ r. ⌜ Makes (now (b .entry)) (now (out .entry)) (now (out .exit)) e o (gives (wrap tag (slice p e (now (b .entry)))) (recordsFrom (now (b .entry)) e)) r ⌝ }
+{
+    let made = make_part(b, p, e, out, opened(out.len(), o, 2));
+    closed(out, o, tag, made)
 }
 
 // The contents that the next record tells, by their form.
@@ -146,20 +171,6 @@ pub fn make_fill(b: &[u8], i: usize, kind: usize, out: &mut [u8], o: usize) -> M
     Made::Took(i, o)
 }
 
-// An element whose contents the next record tells, by their form.
-fn make_element(b: &[u8], i: usize, tag: u8, form: Form, out: &mut [u8], o: usize) -> Made
-    requires { ⌜ Making (now b) i (now out) o ⌝ }
-    ensures { λ r. ⌜ Makes (now (b .entry)) (now (out .entry)) (now (out .exit)) i o (within tag (from (λ k p rs. gives (unvalue form p) rs)) (recordsFrom (now (b .entry)) i)) r ⌝ }
-{
-    if out.len() < o + 2 {
-        return Made::Long;
-    }
-    match make_value(b, i, form, out, o + 2) {
-        Made::Long => Made::Long,
-        Made::Took(n, q) => closed(out, o, tag, n, q),
-    }
-}
-
 // The component of a row, if the next record is of its kind.
 fn make_row(b: &[u8], i: usize, r: Row, out: &mut [u8], o: usize) -> Made
     requires { ⌜ Making (now b) i (now out) o ⌝ }
@@ -167,16 +178,18 @@ fn make_row(b: &[u8], i: usize, r: Row, out: &mut [u8], o: usize) -> Made
 {
     if is_next(b, i, r.kind as usize) {
         let form = r.form;
-        return make_element(b, i, r.tag, form, out, o);
+        let made = make_value(b, i, form, out, opened(out.len(), o, 2));
+        return closed(out, o, r.tag, made);
     }
     Made::Took(i, o)
 }
 
-// The components of a sequence, of which there are so many.
-pub fn make_rows(b: &[u8], i: usize, q: Sequence, last: usize, out: &mut [u8], o: usize) -> Made
-    requires { ⌜ (last ≡ length (rowsOf q)) × Making (now b) i (now out) o ⌝ }
+// The components of a sequence.
+pub fn make_rows(b: &[u8], i: usize, q: Sequence, out: &mut [u8], o: usize) -> Made
+    requires { ⌜ Making (now b) i (now out) o ⌝ }
     ensures { λ r. ⌜ Makes (now (b .entry)) (now (out .entry)) (now (out .exit)) i o (rRows (rowsOf q) (recordsFrom (now (b .entry)) i)) r ⌝ }
 {
+    let last = count_of(q);
     let mut k = 0;
     let mut n = i;
     let mut p = o;
@@ -193,4 +206,23 @@ pub fn make_rows(b: &[u8], i: usize, q: Sequence, last: usize, out: &mut [u8], o
         k += 1;
     }
     Made::Took(n, p)
+}
+
+// The rest of a sequence.
+pub fn make_rest_in(b: &[u8], i: usize, q: Sequence, out: &mut [u8], o: usize) -> Made
+    requires { ⌜ Making (now b) i (now out) o ⌝ }
+    ensures { λ r. ⌜ Makes (now (b .entry)) (now (out .entry)) (now (out .exit)) i o (rKeep (restOf q) (recordsFrom (now (b .entry)) i)) r ⌝ }
+{
+    make_keep(b, i, rest_of(q) as usize, out, o)
+}
+
+// The components of a sequence and its rest.
+pub fn make_sequence(b: &[u8], i: usize, s: Sequence, out: &mut [u8], o: usize) -> Made
+    requires { ⌜ Making (now b) i (now out) o ⌝ }
+    ensures { λ r. ⌜ Makes (now (b .entry)) (now (out .entry)) (now (out .exit)) i o ((rRows (rowsOf s) next rKeep (restOf s)) (recordsFrom (now (b .entry)) i)) r ⌝ }
+{
+    match make_rows(b, i, s, out, o) {
+        Made::Long => Made::Long,
+        Made::Took(n, q) => make_rest_in(b, n, s, out, q),
+    }
 }

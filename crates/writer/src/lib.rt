@@ -4,8 +4,8 @@ mod made;
 mod make_common;
 mod make_condition;
 mod make_entry;
-mod make_kind;
 mod make_object;
+mod make_type;
 mod render;
 
 pub use made::Made;

@@ -2,8 +2,8 @@ use elements::put_header;
 ghost use mathlib.Core.Path.{_≡_};
 ghost use Prim.Native.Nat.{_+_, _≤_};
 ghost use lib.ListN.{length};
-ghost use Rattle.elements.specs.Length.{shortest};
-ghost use Rattle.writer.specs.Making.{Moved, Closed};
+ghost use Rattle.elements.specs.Length.{shortest, wrap};
+ghost use Rattle.writer.specs.Making.{Moved, Opened, Ended, Closed};
 
 // Bytes that were made: where the next record starts, and where they end; or they are too long for a dump.
 pub enum Made {
@@ -39,17 +39,36 @@ fn header_size(n: usize) -> usize
     4
 }
 
-// The header goes in front of contents that stand from o + 2 to q; the next record starts at n.
-pub fn closed(out: &mut [u8], o: usize, tag: u8, n: usize, q: usize) -> Made
-    requires { ⌜ (o + 2 ≤ q) × (q ≤ length (now out)) × (length (now out) ≤ 32768) ⌝ }
-    ensures { λ r. ⌜ Closed (now (out .entry)) (now (out .exit)) o tag n q r ⌝ }
+// Where contents start that have k bytes in front of them, from o on; the end, where there is no room for these.
+pub fn opened(len: usize, o: usize, k: usize) -> usize
+    requires { ⌜ o ≤ len ⌝ }
+    ensures { λ r. ⌜ (r ≤ len) × Opened len o k r ⌝ }
 {
-    let c = q - (o + 2);
-    let by = header_size(c) - 2;
-    if out.len() < q + by {
-        return Made::Long;
+    if len - o < k {
+        return len;
     }
-    move_up(out, o + 2, q, by);
-    put_header(out, o, tag, c);
-    Made::Took(n, q + by)
+    o + k
+}
+
+// The header of an element at o goes in front of its contents, which were made behind its two first bytes.
+pub fn closed(out: &mut [u8], o: usize, tag: u8, made: Made) -> Made
+    requires { ⌜ (o ≤ length (now out)) × (length (now out) ≤ 32768) × Ended (length (now out)) made ⌝ }
+    ensures { λ r. ⌜ Closed (now (out .entry)) (now (out .exit)) o 2 (wrap tag) made r ⌝ }
+{
+    match made {
+        Made::Long => Made::Long,
+        Made::Took(n, q) => {
+            if q < o + 2 {
+                return Made::Long;
+            }
+            let c = q - (o + 2);
+            let by = header_size(c) - 2;
+            if out.len() < q + by {
+                return Made::Long;
+            }
+            move_up(out, o + 2, q, by);
+            put_header(out, o, tag, c);
+            Made::Took(n, q + by)
+        }
+    }
 }

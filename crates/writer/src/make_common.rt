@@ -1,7 +1,8 @@
-use crate::leaf::make_keep;
+use crate::leaf::make_rest_in;
 use crate::leaf::make_rows;
 use crate::made::Made;
 use crate::made::closed;
+use crate::made::opened;
 use crate::make_condition::make_condition;
 use rules::Sequence;
 use rules::is_next;
@@ -15,11 +16,11 @@ fn make_rule_inside(b: &[u8], i: usize, out: &mut [u8], o: usize) -> Made
     requires { ⌜ Making (now b) i (now out) o ⌝ }
     ensures { λ r. ⌜ Makes (now (b .entry)) (now (out .entry)) (now (out .exit)) i o ((rRows ruleRows next rCondition 8 next rKeep 0x012c) (recordsFrom (now (b .entry)) i)) r ⌝ }
 {
-    match make_rows(b, i, Sequence::Rule, 1, out, o) {
+    match make_rows(b, i, Sequence::Rule, out, o) {
         Made::Long => Made::Long,
         Made::Took(n, q) => match make_condition(b, n, 8, out, q) {
             Made::Long => Made::Long,
-            Made::Took(m, t) => make_keep(b, m, 0x012c, out, t),
+            Made::Took(m, t) => make_rest_in(b, m, Sequence::Rule, out, t),
         },
     }
 }
@@ -29,13 +30,8 @@ fn make_rule(b: &[u8], i: usize, out: &mut [u8], o: usize) -> Made
     requires { ⌜ Making (now b) i (now out) o ⌝ }
     ensures { λ r. ⌜ Makes (now (b .entry)) (now (out .entry)) (now (out .exit)) i o (rRule (recordsFrom (now (b .entry)) i)) r ⌝ }
 {
-    if out.len() < o + 2 {
-        return Made::Long;
-    }
-    match make_rule_inside(b, i, out, o + 2) {
-        Made::Long => Made::Long,
-        Made::Took(n, q) => closed(out, o, 0x30, n, q),
-    }
+    let made = make_rule_inside(b, i, out, opened(out.len(), o, 2));
+    closed(out, o, 0x30, made)
 }
 
 // Rules, as long as the next record starts one.
@@ -59,27 +55,14 @@ fn make_more_rules(b: &[u8], i: usize, out: &mut [u8], o: usize) -> Made
     Made::Took(n, q)
 }
 
-// "rules 30": inside their tag.
-fn make_rules(b: &[u8], i: usize, out: &mut [u8], o: usize) -> Made
-    requires { ⌜ Making (now b) i (now out) o ⌝ }
-    ensures { λ r. ⌜ Makes (now (b .entry)) (now (out .entry)) (now (out .exit)) i o (within 0x30 (rAll (mark ruleRows) rRule) (recordsFrom (now (b .entry)) i)) r ⌝ }
-{
-    if out.len() < o + 2 {
-        return Made::Long;
-    }
-    match make_more_rules(b, i, out, o + 2) {
-        Made::Long => Made::Long,
-        Made::Took(n, q) => closed(out, o, 0x30, n, q),
-    }
-}
-
-// Rules where the next record starts one.
+// "rules 30": inside their tag, where the next record starts one.
 fn make_due_rules(b: &[u8], i: usize, out: &mut [u8], o: usize) -> Made
     requires { ⌜ Making (now b) i (now out) o ⌝ }
     ensures { λ r. ⌜ Makes (now (b .entry)) (now (out .entry)) (now (out .exit)) i o (when (mark ruleRows) (within 0x30 (rAll (mark ruleRows) rRule)) (recordsFrom (now (b .entry)) i)) r ⌝ }
 {
     if is_next(b, i, 0x0125) {
-        return make_rules(b, i, out, o);
+        let made = make_more_rules(b, i, out, opened(out.len(), o, 2));
+        return closed(out, o, 0x30, made);
     }
     Made::Took(i, o)
 }
@@ -89,11 +72,11 @@ pub fn make_common(b: &[u8], i: usize, out: &mut [u8], o: usize) -> Made
     requires { ⌜ Making (now b) i (now out) o ⌝ }
     ensures { λ r. ⌜ Makes (now (b .entry)) (now (out .entry)) (now (out .exit)) i o (rCommon (recordsFrom (now (b .entry)) i)) r ⌝ }
 {
-    match make_rows(b, i, Sequence::Common, 4, out, o) {
+    match make_rows(b, i, Sequence::Common, out, o) {
         Made::Long => Made::Long,
         Made::Took(n, q) => match make_due_rules(b, n, out, q) {
             Made::Long => Made::Long,
-            Made::Took(m, t) => make_keep(b, m, 0x012f, out, t),
+            Made::Took(m, t) => make_rest_in(b, m, Sequence::Common, out, t),
         },
     }
 }

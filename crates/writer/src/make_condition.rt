@@ -1,20 +1,17 @@
 use crate::leaf::count_at;
+use crate::leaf::make_part;
+use crate::leaf::part_element;
 use crate::made::Made;
 use crate::made::closed;
-use elements::put_header;
-use elements::put_part;
+use crate::made::opened;
 use rules::Sort;
 use rules::record_end;
 use rules::word;
 ghost use mathlib.Core.Path.{_≡_};
-ghost use mathlib.Core.List.{[]};
 ghost use Prim.Native.Nat.{_≤_};
-ghost use lib.ListN.{length};
 ghost use lib.Seq.{slice};
-ghost use Rattle.elements.specs.Length.{wrap};
-ghost use Rattle.rules.specs.declared.table.Sort.the-variants.{Not};
 ghost use Rattle.rules.specs.Tables.{kindOf, sortBy};
-ghost use Rattle.rules.specs.Render.{gives, within, rTimes, rConditionAs, rCondition};
+ghost use Rattle.rules.specs.Render.{rTimes, rConditionAs, rCondition};
 ghost use Rattle.rules.specs.Book.{recordsFrom};
 ghost use Rattle.writer.specs.Making.{Making, Makes};
 
@@ -30,31 +27,6 @@ fn sort_of_kind(k: usize) -> Sort
         0x012b => Sort::Or,
         _ => Sort::Other,
     }
-}
-
-// The bytes of b from p to t as they are; the next record starts at e.
-fn make_bytes(b: &[u8], e: usize, p: usize, t: usize, out: &mut [u8], o: usize) -> Made
-    requires { ⌜ (p ≤ t) × (t ≤ length (now b)) × Making (now b) e (now out) o ⌝ }
-    ensures { λ r. ⌜ Makes (now (b .entry)) (now (out .entry)) (now (out .exit)) e o (gives (slice p t (now (b .entry))) (recordsFrom (now (b .entry)) e)) r ⌝ }
-{
-    let q = put_part(out, o, b, p, t);
-    if out.len() < q {
-        return Made::Long;
-    }
-    Made::Took(e, q)
-}
-
-// An element with the bytes of b from p to t; the next record starts at e.
-fn make_element(b: &[u8], e: usize, tag: u8, p: usize, t: usize, out: &mut [u8], o: usize) -> Made
-    requires { ⌜ (p ≤ t) × (t ≤ length (now b)) × Making (now b) e (now out) o ⌝ }
-    ensures { λ r. ⌜ Makes (now (b .entry)) (now (out .entry)) (now (out .exit)) e o (gives (wrap tag (slice p t (now (b .entry)))) (recordsFrom (now (b .entry)) e)) r ⌝ }
-{
-    let a = put_header(out, o, tag, t - p);
-    let q = put_part(out, a, b, p, t);
-    if out.len() < q {
-        return Made::Long;
-    }
-    Made::Took(e, q)
 }
 
 // A condition, with so many levels left.
@@ -94,42 +66,23 @@ fn make_condition_as(
     ensures { λ r. ⌜ Makes (now (b .entry)) (now (out .entry)) (now (out .exit)) i o (rConditionAs levels x (slice p i (now (b .entry))) (recordsFrom (now (b .entry)) i)) r ⌝ }
 {
     match x {
-        Sort::Always => make_element(b, i, 0x05, p, p, out, o),
-        Sort::Identifier => {
-            return make_element(b, i, 0x04, p, i, out, o);
+        Sort::Always => part_element(b, i, i, 0x05, out, o),
+        Sort::Identifier => part_element(b, p, i, 0x04, out, o),
+        Sort::Not => {
+            let made = make_condition(b, i, levels, out, opened(out.len(), o, 2));
+            closed(out, o, 0xa0, made)
         }
-        Sort::Not => make_not(b, i, levels, out, o),
-        Sort::And => make_list(b, i, levels, 0xa1, count_at(b, p, i, 0), out, o),
-        Sort::Or => make_list(b, i, levels, 0xa2, count_at(b, p, i, 0), out, o),
-        Sort::Other => make_bytes(b, i, p, i, out, o),
-    }
-}
-
-// "A0 not, one inside".
-fn make_not(b: &[u8], i: usize, levels: usize, out: &mut [u8], o: usize) -> Made
-    requires { ⌜ Making (now b) i (now out) o ⌝ }
-    ensures { λ r. ⌜ Makes (now (b .entry)) (now (out .entry)) (now (out .exit)) i o (rConditionAs levels Not [] (recordsFrom (now (b .entry)) i)) r ⌝ }
-{
-    if out.len() < o + 2 {
-        return Made::Long;
-    }
-    match make_condition(b, i, levels, out, o + 2) {
-        Made::Long => Made::Long,
-        Made::Took(n, q) => closed(out, o, 0xa0, n, q),
-    }
-}
-
-// A list of k conditions, inside its tag.
-fn make_list(b: &[u8], i: usize, levels: usize, tag: u8, k: usize, out: &mut [u8], o: usize) -> Made
-    requires { ⌜ Making (now b) i (now out) o ⌝ }
-    ensures { λ r. ⌜ Makes (now (b .entry)) (now (out .entry)) (now (out .exit)) i o (within tag (rTimes k (λ rs. rCondition levels rs)) (recordsFrom (now (b .entry)) i)) r ⌝ }
-{
-    if out.len() < o + 2 {
-        return Made::Long;
-    }
-    match make_times(b, i, levels, k, out, o + 2) {
-        Made::Long => Made::Long,
-        Made::Took(n, q) => closed(out, o, tag, n, q),
+        Sort::And => {
+            let k = count_at(b, p, i, 0);
+            let made = make_times(b, i, levels, k, out, opened(out.len(), o, 2));
+            closed(out, o, 0xa1, made)
+        }
+        Sort::Or => {
+            let k = count_at(b, p, i, 0);
+            let made = make_times(b, i, levels, k, out, opened(out.len(), o, 2));
+            closed(out, o, 0xa2, made)
+        }
+        Sort::Other => make_part(b, p, i, out, o),
     }
 }
 

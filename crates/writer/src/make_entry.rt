@@ -1,24 +1,21 @@
 use crate::leaf::make_fill;
-use crate::leaf::make_keep;
-use crate::leaf::make_rows;
+use crate::leaf::make_part;
+use crate::leaf::make_sequence;
+use crate::leaf::part_element;
 use crate::made::Made;
 use crate::made::closed;
+use crate::made::opened;
 use crate::make_object::make_objects;
-use elements::put_part;
 use rules::Sequence;
 use rules::byte_at;
 use rules::is_next;
 use rules::record_end;
-ghost use mathlib.Core.Path.{_≡_};
 ghost use mathlib.Core.List.{[], _∷_};
 ghost use Prim.Native.Nat.{_+_, _≤_};
-ghost use lib.ListN.{length, drop};
-ghost use lib.Seq.{slice};
-ghost use Rattle.elements.specs.Length.{wrap};
-ghost use Rattle.rules.specs.Tables.{ciaRows};
-ghost use Rattle.rules.specs.Render.{gives, _next_, within, from, rRows, rKeep, rAll, rObjects, rInside, rEntry, rCia, rOd, rDirectory};
+ghost use lib.ListN.{length};
+ghost use Rattle.rules.specs.Render.{from, rAll, rObjects, rInside, rEntry, rCia, rOd, rDirectory};
 ghost use Rattle.rules.specs.Book.{recordsFrom, Ends};
-ghost use Rattle.writer.specs.Making.{Making, Makes, Onward, Tail, KnownMade};
+ghost use Rattle.writer.specs.Making.{Making, Makes, Onward, Tail};
 
 // Where an entry's own bytes start, behind its tag and the byte that says what it is.
 fn tail_of(i: usize, e: usize) -> usize
@@ -31,82 +28,17 @@ fn tail_of(i: usize, e: usize) -> usize
     i + 6
 }
 
-// What stands from p to e as it is; the records from e on are left.
-fn make_part(b: &[u8], p: usize, e: usize, out: &mut [u8], o: usize) -> Made
-    requires { ⌜ (p ≤ e) × Making (now b) e (now out) o ⌝ }
-    ensures { λ r. ⌜ Makes (now (b .entry)) (now (out .entry)) (now (out .exit)) e o (gives (slice p e (now (b .entry))) (recordsFrom (now (b .entry)) e)) r ⌝ }
-{
-    if out.len() - o < e - p {
-        return Made::Long;
-    }
-    Made::Took(e, put_part(out, o, b, p, e))
-}
-
-// The path: an OCTET STRING.
-fn make_octets(b: &[u8], p: usize, e: usize, out: &mut [u8], o: usize) -> Made
-    requires { ⌜ (p ≤ e) × Making (now b) e (now out) o ⌝ }
-    ensures { λ r. ⌜ Makes (now (b .entry)) (now (out .entry)) (now (out .exit)) e o (gives (wrap 0x04 (slice p e (now (b .entry)))) (recordsFrom (now (b .entry)) e)) r ⌝ }
-{
-    if out.len() < o + 2 {
-        return Made::Long;
-    }
-    match make_part(b, p, e, out, o + 2) {
-        Made::Long => Made::Long,
-        Made::Took(n, q) => closed(out, o, 0x04, n, q),
-    }
-}
-
-// A Path that holds it and nothing more.
-fn make_named(b: &[u8], p: usize, e: usize, out: &mut [u8], o: usize) -> Made
-    requires { ⌜ (p ≤ e) × Making (now b) e (now out) o ⌝ }
-    ensures { λ r. ⌜ Makes (now (b .entry)) (now (out .entry)) (now (out .exit)) e o (gives (wrap 0x30 (wrap 0x04 (slice p e (now (b .entry))))) (recordsFrom (now (b .entry)) e)) r ⌝ }
-{
-    if out.len() < o + 2 {
-        return Made::Long;
-    }
-    match make_octets(b, p, e, out, o + 2) {
-        Made::Long => Made::Long,
-        Made::Took(n, q) => closed(out, o, 0x30, n, q),
-    }
-}
-
-// Objects inside an entry.
-fn make_inline(b: &[u8], i: usize, out: &mut [u8], o: usize) -> Made
-    requires { ⌜ Making (now b) i (now out) o ⌝ }
-    ensures { λ r. ⌜ Makes (now (b .entry)) (now (out .entry)) (now (out .exit)) i o (within 0xa0 rObjects (recordsFrom (now (b .entry)) i)) r ⌝ }
-{
-    if out.len() < o + 2 {
-        return Made::Long;
-    }
-    match make_objects(b, i, out, o + 2) {
-        Made::Long => Made::Long,
-        Made::Took(n, q) => closed(out, o, 0xa0, n, q),
-    }
-}
-
-// Inside an entry's tag: a path or objects, by the byte behind the tag. The entry's record is at i.
+// Inside an entry's tag: a Path or objects, by the byte behind the tag. The entry's record is at i.
 fn make_inside(b: &[u8], i: usize, e: usize, out: &mut [u8], o: usize) -> Made
     requires { ⌜ Ends (now b) i e × Making (now b) i (now out) o ⌝ }
     ensures { λ r. ⌜ Makes (now (b .entry)) (now (out .entry)) (now (out .exit)) i o (rInside (recordsFrom (now (b .entry)) i)) r × Onward (now (b .entry)) i r ⌝ }
 {
     if byte_at(b, i + 4, e, 1) == 0 {
-        return make_named(b, tail_of(i, e), e, out, o);
+        let made = part_element(b, tail_of(i, e), e, 0x04, out, opened(out.len(), o, 2));
+        return closed(out, o, 0x30, made);
     }
-    make_inline(b, e, out, o)
-}
-
-// An entry with a tag of ours.
-fn make_known(b: &[u8], i: usize, e: usize, out: &mut [u8], o: usize) -> Made
-    requires { ⌜ Ends (now b) i e × Making (now b) i (now out) o ⌝ }
-    ensures { λ r. ⌜ KnownMade (now (b .entry)) (now (out .entry)) (now (out .exit)) i e o r × Onward (now (b .entry)) i r ⌝ }
-{
-    if out.len() < o + 2 {
-        return Made::Long;
-    }
-    match make_inside(b, i, e, out, o + 2) {
-        Made::Long => Made::Long,
-        Made::Took(n, q) => closed(out, o, byte_at(b, i + 4, e, 0), n, q),
-    }
+    let made = make_objects(b, e, out, opened(out.len(), o, 2));
+    closed(out, o, 0xa0, made)
 }
 
 // An entry of EF.OD.
@@ -116,7 +48,8 @@ fn make_entry(b: &[u8], i: usize, out: &mut [u8], o: usize) -> Made
 {
     let e = record_end(b, i);
     if byte_at(b, i + 4, e, 1) < 2 {
-        return make_known(b, i, e, out, o);
+        let made = make_inside(b, i, e, out, opened(out.len(), o, 2));
+        return closed(out, o, byte_at(b, i + 4, e, 0), made);
     }
     make_part(b, tail_of(i, e), e, out, o)
 }
@@ -153,37 +86,13 @@ pub fn make_od(b: &[u8], i: usize, out: &mut [u8], o: usize) -> Made
     }
 }
 
-// CIAInfo's contents.
-fn make_info(b: &[u8], i: usize, out: &mut [u8], o: usize) -> Made
-    requires { ⌜ Making (now b) i (now out) o ⌝ }
-    ensures { λ r. ⌜ Makes (now (b .entry)) (now (out .entry)) (now (out .exit)) i o ((rRows ciaRows next rKeep 0x0106) (recordsFrom (now (b .entry)) i)) r ⌝ }
-{
-    match make_rows(b, i, Sequence::Info, 5, out, o) {
-        Made::Long => Made::Long,
-        Made::Took(n, q) => make_keep(b, n, 0x0106, out, q),
-    }
-}
-
-// CIAInfo.
-fn make_info_element(b: &[u8], i: usize, out: &mut [u8], o: usize) -> Made
-    requires { ⌜ Making (now b) i (now out) o ⌝ }
-    ensures { λ r. ⌜ Makes (now (b .entry)) (now (out .entry)) (now (out .exit)) i o (within 0x30 (rRows ciaRows next rKeep 0x0106) (recordsFrom (now (b .entry)) i)) r ⌝ }
-{
-    if out.len() < o + 2 {
-        return Made::Long;
-    }
-    match make_info(b, i, out, o + 2) {
-        Made::Long => Made::Long,
-        Made::Took(n, q) => closed(out, o, 0x30, n, q),
-    }
-}
-
 // CIAInfo's file.
 pub fn make_cia(b: &[u8], i: usize, out: &mut [u8], o: usize) -> Made
     requires { ⌜ Making (now b) i (now out) o ⌝ }
     ensures { λ r. ⌜ Makes (now (b .entry)) (now (out .entry)) (now (out .exit)) i o (rCia (recordsFrom (now (b .entry)) i)) r ⌝ }
 {
-    match make_info_element(b, i, out, o) {
+    let made = make_sequence(b, i, Sequence::Info, out, opened(out.len(), o, 2));
+    match closed(out, o, 0x30, made) {
         Made::Long => Made::Long,
         Made::Took(n, q) => make_fill(b, n, 0x0108, out, q),
     }

@@ -1,10 +1,11 @@
 use crate::leaf::make_keep;
 use crate::leaf::make_plain;
-use crate::leaf::make_rows;
+use crate::leaf::make_sequence;
 use crate::made::Made;
 use crate::made::closed;
+use crate::made::opened;
 use crate::make_common::make_common;
-use crate::make_kind::make_type;
+use crate::make_type::make_type;
 use rules::Class;
 use rules::ObjectType;
 use rules::Sequence;
@@ -16,31 +17,11 @@ use rules::type_of;
 ghost use mathlib.Core.Path.{_≡_};
 ghost use mathlib.Core.List.{[], _∷_};
 ghost use Prim.Native.Nat.{_+_, _≤_};
-ghost use lib.ListN.{length, getD};
-ghost use lib.Seq.{slice};
-ghost use Rattle.rules.specs.Tables.{rowsOf, classOf};
-ghost use Rattle.rules.specs.Render.{_next_, within, when, plain, rRows, rKeep, rCommon, rClass, rType, rContents, rObject, rObjects};
+ghost use lib.ListN.{length};
+ghost use Rattle.rules.specs.Tables.{classOf};
+ghost use Rattle.rules.specs.Render.{_next_, within, when, plain, rCommon, rClass, rType, rContents, rObject, rObjects};
 ghost use Rattle.rules.specs.Book.{recordsFrom};
 ghost use Rattle.writer.specs.Making.{Making, Makes, Onward};
-
-// The components of a sequence, of which there are so many, and its rest.
-fn make_sequence(
-    b: &[u8],
-    i: usize,
-    s: Sequence,
-    last: usize,
-    kind: usize,
-    out: &mut [u8],
-    o: usize,
-) -> Made
-    requires { ⌜ (last ≡ length (rowsOf s)) × Making (now b) i (now out) o ⌝ }
-    ensures { λ r. ⌜ Makes (now (b .entry)) (now (out .entry)) (now (out .exit)) i o ((rRows (rowsOf s) next rKeep kind) (recordsFrom (now (b .entry)) i)) r ⌝ }
-{
-    match make_rows(b, i, s, last, out, o) {
-        Made::Long => Made::Long,
-        Made::Took(n, q) => make_keep(b, n, kind, out, q),
-    }
-}
 
 // What an object of a class has.
 fn make_class(b: &[u8], i: usize, c: Class, out: &mut [u8], o: usize) -> Made
@@ -48,9 +29,9 @@ fn make_class(b: &[u8], i: usize, c: Class, out: &mut [u8], o: usize) -> Made
     ensures { λ r. ⌜ Makes (now (b .entry)) (now (out .entry)) (now (out .exit)) i o (rClass c (recordsFrom (now (b .entry)) i)) r ⌝ }
 {
     match c {
-        Class::Keys => make_sequence(b, i, Sequence::Key, 7, 0x013f, out, o),
-        Class::Certificates => make_sequence(b, i, Sequence::Certificate, 2, 0x014f, out, o),
-        Class::Authentications => make_sequence(b, i, Sequence::Authentication, 3, 0x015f, out, o),
+        Class::Keys => make_sequence(b, i, Sequence::Key, out, o),
+        Class::Certificates => make_sequence(b, i, Sequence::CertificateAttributes, out, o),
+        Class::Authentications => make_sequence(b, i, Sequence::Authentication, out, o),
         Class::Containers => make_keep(b, i, 0x0160, out, o),
     }
 }
@@ -60,13 +41,8 @@ fn common_element(b: &[u8], i: usize, out: &mut [u8], o: usize) -> Made
     requires { ⌜ Making (now b) i (now out) o ⌝ }
     ensures { λ r. ⌜ Makes (now (b .entry)) (now (out .entry)) (now (out .exit)) i o (within 0x30 rCommon (recordsFrom (now (b .entry)) i)) r ⌝ }
 {
-    if out.len() < o + 2 {
-        return Made::Long;
-    }
-    match make_common(b, i, out, o + 2) {
-        Made::Long => Made::Long,
-        Made::Took(n, q) => closed(out, o, 0x30, n, q),
-    }
+    let made = make_common(b, i, out, opened(out.len(), o, 2));
+    closed(out, o, 0x30, made)
 }
 
 // The class in its element.
@@ -74,36 +50,18 @@ fn class_element(b: &[u8], i: usize, c: Class, out: &mut [u8], o: usize) -> Made
     requires { ⌜ Making (now b) i (now out) o ⌝ }
     ensures { λ r. ⌜ Makes (now (b .entry)) (now (out .entry)) (now (out .exit)) i o (within 0x30 (rClass c) (recordsFrom (now (b .entry)) i)) r ⌝ }
 {
-    if out.len() < o + 2 {
-        return Made::Long;
-    }
-    match make_class(b, i, c, out, o + 2) {
-        Made::Long => Made::Long,
-        Made::Took(n, q) => closed(out, o, 0x30, n, q),
-    }
+    let made = make_class(b, i, c, out, opened(out.len(), o, 2));
+    closed(out, o, 0x30, made)
 }
 
-// "Subclass: one sealed element inside the A0".
-fn subclass_element(b: &[u8], i: usize, out: &mut [u8], o: usize) -> Made
-    requires { ⌜ Making (now b) i (now out) o ⌝ }
-    ensures { λ r. ⌜ Makes (now (b .entry)) (now (out .entry)) (now (out .exit)) i o (within 0xa0 plain (recordsFrom (now (b .entry)) i)) r ⌝ }
-{
-    if out.len() < o + 2 {
-        return Made::Long;
-    }
-    match make_plain(b, i, out, o + 2) {
-        Made::Long => Made::Long,
-        Made::Took(n, q) => closed(out, o, 0xa0, n, q),
-    }
-}
-
-// A subclass if the next record is one's.
+// "Subclass: one sealed element inside the A0", if the next record is one's.
 fn make_subclass(b: &[u8], i: usize, out: &mut [u8], o: usize) -> Made
     requires { ⌜ Making (now b) i (now out) o ⌝ }
     ensures { λ r. ⌜ Makes (now (b .entry)) (now (out .entry)) (now (out .exit)) i o (when (0x0170 ∷ []) (within 0xa0 plain) (recordsFrom (now (b .entry)) i)) r ⌝ }
 {
     if is_next(b, i, 0x0170) {
-        return subclass_element(b, i, out, o);
+        let made = make_plain(b, i, out, opened(out.len(), o, 2));
+        return closed(out, o, 0xa0, made);
     }
     Made::Took(i, o)
 }
@@ -113,13 +71,8 @@ fn type_element(b: &[u8], i: usize, t: ObjectType, out: &mut [u8], o: usize) -> 
     requires { ⌜ Making (now b) i (now out) o ⌝ }
     ensures { λ r. ⌜ Makes (now (b .entry)) (now (out .entry)) (now (out .exit)) i o (within 0xa1 (rType t) (recordsFrom (now (b .entry)) i)) r ⌝ }
 {
-    if out.len() < o + 2 {
-        return Made::Long;
-    }
-    match make_type(b, i, t, out, o + 2) {
-        Made::Long => Made::Long,
-        Made::Took(n, q) => closed(out, o, 0xa1, n, q),
-    }
+    let made = make_type(b, i, t, out, opened(out.len(), o, 2));
+    closed(out, o, 0xa1, made)
 }
 
 // Common, class and subclass.
@@ -147,20 +100,6 @@ fn make_contents(b: &[u8], i: usize, entry: u8, tag: u8, out: &mut [u8], o: usiz
     }
 }
 
-// An object's element, by its entry's tag and its own.
-fn object_element(b: &[u8], i: usize, entry: u8, tag: u8, out: &mut [u8], o: usize) -> Made
-    requires { ⌜ Making (now b) i (now out) o ⌝ }
-    ensures { λ r. ⌜ Makes (now (b .entry)) (now (out .entry)) (now (out .exit)) i o (within tag (rContents entry tag) (recordsFrom (now (b .entry)) i)) r ⌝ }
-{
-    if out.len() < o + 2 {
-        return Made::Long;
-    }
-    match make_contents(b, i, entry, tag, out, o + 2) {
-        Made::Long => Made::Long,
-        Made::Took(n, q) => closed(out, o, tag, n, q),
-    }
-}
-
 // The object that the record at i starts: it tells the tag of its entry and its own.
 fn make_object(b: &[u8], i: usize, out: &mut [u8], o: usize) -> Made
     requires { ⌜ (i + 4 ≤ length (now b)) × Making (now b) i (now out) o ⌝ }
@@ -169,7 +108,8 @@ fn make_object(b: &[u8], i: usize, out: &mut [u8], o: usize) -> Made
     let e = record_end(b, i);
     let entry = byte_at(b, i + 4, e, 0);
     let tag = byte_at(b, i + 4, e, 1);
-    object_element(b, e, entry, tag, out, o)
+    let made = make_contents(b, e, entry, tag, out, opened(out.len(), o, 2));
+    closed(out, o, tag, made)
 }
 
 // Objects, as long as the next record starts one.

@@ -1,4 +1,5 @@
 use crate::made::Made;
+use crate::made::opened;
 use crate::make_entry::make_cia;
 use crate::make_entry::make_directory;
 use crate::make_entry::make_od;
@@ -11,48 +12,23 @@ use rules::word;
 ghost use mathlib.Core.Path.{_≡_};
 ghost use Prim.Native.Nat.{_+_, _≤_};
 ghost use lib.ListN.{length};
-ghost use Rattle.rules.specs.Book.{records, recordsFrom, Ends};
-ghost use Rattle.rules.specs.Render.{gives, rCia, rOd, framing, render};
-ghost use Rattle.writer.specs.Making.{Steps, Making, Makes, Fronted, Fitted, Named, FileMade, FilesMade, TwoMade, names};
+ghost use Rattle.rules.specs.Book.{records, Ends};
+ghost use Rattle.rules.specs.Render.{framing, render};
+ghost use Rattle.writer.specs.Making.{Steps, Making, Ended, Closed, Fitted, Named, FileMade, FilesMade, TwoMade, names};
 
-// A dump record's length and kind go in front of contents that stand from o + 4 to q.
-fn put_front(out: &mut [u8], o: usize, kind: u16, q: usize)
-    requires { ⌜ (o + 4 ≤ q) × (q ≤ length (now out)) × (length (now out) ≤ 32768) ⌝ }
-    ensures { λ r. ⌜ Fronted (now (out .entry)) (now (out .exit)) o kind q ⌝ }
+// The length and kind of a dump record at o go in front of its contents, which were made behind these four bytes.
+fn fronted(out: &mut [u8], o: usize, kind: u16, made: Made) -> Made
+    requires { ⌜ (o ≤ length (now out)) × (length (now out) ≤ 32768) × Ended (length (now out)) made ⌝ }
+    ensures { λ r. ⌜ Closed (now (out .entry)) (now (out .exit)) o 4 (framing kind) made r ⌝ }
 {
-    let p = put_le16(out, o, (q - (o + 4) + 2) as u16);
-    put_le16(out, p, kind);
-}
-
-// CIAInfo's record.
-fn make_first(b: &[u8], i: usize, out: &mut [u8], o: usize) -> Made
-    requires { ⌜ Making (now b) i (now out) o ⌝ }
-    ensures { λ r. ⌜ Makes (now (b .entry)) (now (out .entry)) (now (out .exit)) i o (gives (framing 1 (rCia (recordsFrom (now (b .entry)) i) .bytes)) (rCia (recordsFrom (now (b .entry)) i) .left)) r ⌝ }
-{
-    if out.len() < o + 4 {
-        return Made::Long;
-    }
-    match make_cia(b, i, out, o + 4) {
+    match made {
         Made::Long => Made::Long,
         Made::Took(n, q) => {
-            put_front(out, o, 1, q);
-            Made::Took(n, q)
-        }
-    }
-}
-
-// EF.OD's record.
-fn make_second(b: &[u8], i: usize, out: &mut [u8], o: usize) -> Made
-    requires { ⌜ Making (now b) i (now out) o ⌝ }
-    ensures { λ r. ⌜ Makes (now (b .entry)) (now (out .entry)) (now (out .exit)) i o (gives (framing 2 (rOd (recordsFrom (now (b .entry)) i) .bytes)) (rOd (recordsFrom (now (b .entry)) i) .left)) r ⌝ }
-{
-    if out.len() < o + 4 {
-        return Made::Long;
-    }
-    match make_od(b, i, out, o + 4) {
-        Made::Long => Made::Long,
-        Made::Took(n, q) => {
-            put_front(out, o, 2, q);
+            if q < o + 4 {
+                return Made::Long;
+            }
+            let p = put_le16(out, o, (q - (o + 4) + 2) as u16);
+            put_le16(out, p, kind);
             Made::Took(n, q)
         }
     }
@@ -90,13 +66,8 @@ fn make_file(b: &[u8], j: usize, e: usize, i: usize, out: &mut [u8], o: usize) -
     if out.len() < p {
         return Made::Long;
     }
-    match make_directory(b, i, out, p) {
-        Made::Long => Made::Long,
-        Made::Took(n, q) => {
-            put_front(out, o, 3, q);
-            Made::Took(n, q)
-        }
-    }
+    let made = make_directory(b, i, out, p);
+    fronted(out, o, 3, made)
 }
 
 // The directory files for the records of EF.OD from j to end, from the records that start at i.
@@ -132,7 +103,8 @@ fn make_rest(b: &[u8], i: usize, out: &mut [u8], o: usize) -> Made
     requires { ⌜ Making (now b) i (now out) o ⌝ }
     ensures { λ r. ⌜ TwoMade (now (b .entry)) (now (out .entry)) (now (out .exit)) i o r ⌝ }
 {
-    match make_second(b, i, out, o) {
+    let made = make_od(b, i, out, opened(out.len(), o, 4));
+    match fronted(out, o, 2, made) {
         Made::Long => Made::Long,
         Made::Took(n, q) => make_files(b, i, n, n, out, q),
     }
@@ -143,7 +115,8 @@ pub fn render_into(b: &[u8], out: &mut [u8]) -> Made
     requires { ⌜ (length (now b) ≤ 131072) × (length (now out) ≤ 32768) ⌝ }
     ensures { λ r. ⌜ Fitted (now (out .entry)) (now (out .exit)) 0 (render (records (now (b .entry)))) r ⌝ }
 {
-    match make_first(b, 0, out, 0) {
+    let made = make_cia(b, 0, out, opened(out.len(), 0, 4));
+    match fronted(out, 0, 1, made) {
         Made::Long => Made::Long,
         Made::Took(n, q) => make_rest(b, n, out, q),
     }

@@ -6,9 +6,9 @@ use Rattle.links.proofs.rows.put_row.Tie as tie
 pub put-row-spec : {M : Type 1} → statement M
 put-row-spec =
     tie.close (tie.spec
-    (λ c κs. search needs)  -- put-word-requires
-    (λ c κs. search needs)  -- put-word-requires-2
-    (λ c κs. search needs)  -- put-word-requires-3
-    (λ c κs. search needs)  -- put-word-requires-4
+    (λ c κs. search needs)  -- store-requires
+    (λ c κs. search needs)  -- store-requires-2
+    (λ c κs. search needs)  -- store-requires-3
+    (λ c κs. search needs)  -- store-requires-4
     (λ c. search needs)  -- same-length
     (λ c. search put-four))  -- returns

@@ -23,8 +23,8 @@ objects-spec =
     (λ c. search needs)  -- same-length-2
     (λ c. search (objects-broke, needs))  -- returns
     (λ c. search needs)  -- enum-known-m
-    (λ c. search needs)  -- cast-put-place
-    (λ c κs. search needs)  -- put-place-requires
+    (λ c. search needs)  -- cast-store
+    (λ c κs. search needs)  -- store-requires
     (λ c. search (objects-less, needs))  -- loop-less
     (λ c. search (objects-next, needs))  -- loop-again
     (λ c. search needs)  -- same-length-3

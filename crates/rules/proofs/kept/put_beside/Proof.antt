@@ -1,7 +1,7 @@
 use Rattle.rules.proofs.KeptLaws.{beside-none, beside-one}
 use mathlib.Core.Path.{refl}
 use borrow.Author.Needs.{needs}
-use Rattle.rules.specs.declared.table.Sequence.the-variants.{Info, Common, Rule, Key, Certificate, Authentication, PrivateKey, Password, Path}
+use Rattle.rules.specs.declared.table.Sequence.the-variants.{Info, Common, Rule, Key, CertificateAttributes, Authentication, PrivateKeyAttributes, PasswordAttributes, Path}
 use Rattle.rules.proofs.kept.put_beside.Statement.{statement}
 use Rattle.rules.proofs.kept.put_beside.Tie as tie
 
@@ -24,9 +24,9 @@ put-beside-spec =
     (λ c. search (beside-one Common refl, needs))
     (λ c. search (beside-none Rule refl, needs))
     (λ c. search (beside-none Key refl, needs))
-    (λ c. search (beside-none Certificate refl, needs))
+    (λ c. search (beside-none CertificateAttributes refl, needs))
     (λ c. search (beside-none Authentication refl, needs))
-    (λ c. search (beside-none PrivateKey refl, needs))
+    (λ c. search (beside-none PrivateKeyAttributes refl, needs))
     (λ c. search needs)
-    (λ c. search (beside-one Password refl, needs))
+    (λ c. search (beside-one PasswordAttributes refl, needs))
     (λ c. search (beside-none Path refl, needs)))

@@ -5,7 +5,7 @@ use native.Mathlib.Omega.{arith}
 use lib.ListN.{length, getD}
 use borrow.Author.Needs.{needs}
 use Rattle.rules.specs.declared.table.Sequence.{Sequence}
-use Rattle.rules.specs.declared.table.Sequence.the-variants.{Info, Common, Rule, Key, Certificate, Authentication, PrivateKey, Password, Path}
+use Rattle.rules.specs.declared.table.Sequence.the-variants.{Info, Common, Rule, Key, CertificateAttributes, Authentication, PrivateKeyAttributes, PasswordAttributes, Path}
 use Rattle.rules.specs.declared.table.Row.{Row}
 use Rattle.rules.specs.declared.rows.Line.{Line}
 use Rattle.rules.specs.Parts.{row}
@@ -59,9 +59,9 @@ row-of-spec =
     (λ c. row-is Key (c .before .before .before .before .args .q) (c .before .before .before .before .args .i) (search needs) (c .row4 .ensures))
     (λ c. search needs)
     (λ c. search (fits, needs))
-    (λ c. search (inside Certificate, needs))
+    (λ c. search (inside CertificateAttributes, needs))
     (λ c κs. search needs)
-    (λ c. row-is Certificate (c .before .before .before .before .args .q) (c .before .before .before .before .args .i) (search needs) (c .row5 .ensures))
+    (λ c. row-is CertificateAttributes (c .before .before .before .before .args .q) (c .before .before .before .before .args .i) (search needs) (c .row5 .ensures))
     (λ c. search needs)
     (λ c. search (fits, needs))
     (λ c. search (inside Authentication, needs))
@@ -69,14 +69,14 @@ row-of-spec =
     (λ c. row-is Authentication (c .before .before .before .before .args .q) (c .before .before .before .before .args .i) (search needs) (c .row6 .ensures))
     (λ c. search needs)
     (λ c. search (fits, needs))
-    (λ c. search (inside PrivateKey, needs))
+    (λ c. search (inside PrivateKeyAttributes, needs))
     (λ c κs. search needs)
-    (λ c. row-is PrivateKey (c .before .before .before .before .args .q) (c .before .before .before .before .args .i) (search needs) (c .row7 .ensures))
+    (λ c. row-is PrivateKeyAttributes (c .before .before .before .before .args .q) (c .before .before .before .before .args .i) (search needs) (c .row7 .ensures))
     (λ c. search needs)
     (λ c. search (fits, needs))
-    (λ c. search (inside Password, needs))
+    (λ c. search (inside PasswordAttributes, needs))
     (λ c κs. search needs)
-    (λ c. row-is Password (c .before .before .before .before .args .q) (c .before .before .before .before .args .i) (search needs) (c .row8 .ensures))
+    (λ c. row-is PasswordAttributes (c .before .before .before .before .args .q) (c .before .before .before .before .args .i) (search needs) (c .row8 .ensures))
     (λ c. search needs)
     (λ c. search (fits, needs))
     (λ c. search (inside Path, needs))

@@ -1,3 +1,4 @@
+use Rattle.writer.proofs.MadeLaws.{made-ended, within-made}
 use Rattle.writer.proofs.LeafLaws.{row-yes, row-no}
 use borrow.Author.Needs.{needs}
 use Rattle.writer.proofs.leaf.make_row.Statement.{statement}
@@ -8,7 +9,9 @@ make-row-spec =
     tie.close (tie.spec
     (λ c. search needs)  -- cast-is-next
     (λ c κs. search needs)  -- is-next-requires
-    (λ c κs. search needs)  -- make-element-requires
+    (λ c κs. search needs)  -- opened-requires
+    (λ c κs. search needs)  -- make-value-requires
+    (λ c κs. search (made-ended, needs))  -- closed-requires
     (λ c. search needs)  -- same-length
-    (λ c. search (row-yes, needs))  -- returns
+    (λ c. search (row-yes, within-made, needs))  -- returns
     (λ c. search (row-no, needs)))  -- returns-2

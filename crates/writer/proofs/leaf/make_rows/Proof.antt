@@ -6,16 +6,17 @@ use Rattle.writer.proofs.leaf.make_rows.Statement.{statement}
 use Rattle.writer.proofs.leaf.make_rows.Tie as tie
 
 abbrev Inv-loop : tie.InvT-loop
-Inv-loop b i q last out₀ o k₀ n₀ p₀ out k n p = Along b (rowsOf q) out₀ out i o last k n p
+Inv-loop b i q out₀ o last k₀ n₀ p₀ out k n p = Along b (rowsOf q) out₀ out i o last k n p
 
 abbrev μ-loop : tie.MeasureT-loop
-μ-loop b i q last out₀ o k₀ n₀ p₀ out k n p = last - k
+μ-loop b i q out₀ o last k₀ n₀ p₀ out k n p = last - k
 
 pub make-rows-spec : {M : Type 1} → statement M
 make-rows-spec =
     tie.close (tie.spec
     Inv-loop
     μ-loop
+    (λ c κs. search needs)  -- count-of-requires
     (λ c. search (along-start, needs))  -- loop-holds
     (λ c κs. search needs)  -- row-of-requires
     (λ c κs. search needs)  -- make-row-requires

@@ -14,10 +14,10 @@ make-rule-inside-spec =
     (λ c κs. search (made-high, made-room, needs))  -- make-condition-requires
     (λ c. search needs)  -- enum-told-2
     (λ c. search needs)  -- enum-known-m
-    (λ c κs. (made-high (c .before .before .before .before .before .before .make-condition .ensures) (c .before .before .m .given .1), omega arith, made-room (c .before .before .before .before .before .before .make-condition .ensures) (c .before .before .m .given .1), omega arith))  -- make-keep-requires
+    (λ c κs. (made-high (c .before .before .before .before .before .before .make-condition .ensures) (c .before .before .m .given .1), omega arith, made-room (c .before .before .before .before .before .before .make-condition .ensures) (c .before .before .m .given .1), omega arith))  -- make-rest-in-requires
     (λ c. search needs)  -- same-length
     (λ c. rule-first (c .before .before .before .before .make-rows .ensures) (c .enum-told .given .1))  -- returns
     (λ c. search needs)  -- same-length-2
     (λ c. rule-second (c .before .before .before .before .before .before .before .before .before .before .before .make-rows .ensures) (c .before .before .before .before .before .before .before .n .given .1) (c .before .before .before .before .make-condition .ensures) (c .enum-told2 .given .1))  -- returns-2
     (λ c. search needs)  -- same-length-3
-    (λ c. rule-third (c .before .before .before .before .before .before .before .before .before .before .before .before .before .before .before .before .make-rows .ensures) (c .before .before .before .before .before .before .before .before .before .before .before .before .n .given .1) (c .before .before .before .before .before .before .before .before .before .make-condition .ensures) (c .before .before .before .before .before .m .given .1) (c .before .before .make-keep .ensures)))  -- returns-3
+    (λ c. rule-third (c .before .before .before .before .before .before .before .before .before .before .before .before .before .before .before .before .make-rows .ensures) (c .before .before .before .before .before .before .before .before .before .before .before .before .n .given .1) (c .before .before .before .before .before .before .before .before .before .make-condition .ensures) (c .before .before .before .before .before .m .given .1) (c .before .before .make-rest-in .ensures)))  -- returns-3

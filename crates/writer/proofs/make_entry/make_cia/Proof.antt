@@ -1,6 +1,6 @@
-use Rattle.writer.proofs.MadeLaws.{then-long, then-took, made-high, made-room, makes-same}
-use Rattle.rules.specs.Render.{_next_, within, rRows, rKeep, rFill}
 use Rattle.rules.specs.Tables.{ciaRows}
+use Rattle.rules.specs.Render.{_next_, within, rRows, rKeep, rFill}
+use Rattle.writer.proofs.MadeLaws.{made-ended, within-made, closed-next, then-long, then-took}
 use borrow.Author.Needs.{needs}
 use Rattle.writer.proofs.make_entry.make_cia.Statement.{statement}
 use Rattle.writer.proofs.make_entry.make_cia.Tie as tie
@@ -10,11 +10,13 @@ pub make-cia-spec : {M : Type 1} → statement M
 unfolding layouts.cia layouts.info
 make-cia-spec =
     tie.close (tie.spec
-    (λ c κs. search needs)  -- make-info-element-requires
+    (λ c κs. search needs)  -- opened-requires
+    (λ c κs. search needs)  -- make-sequence-requires
+    (λ c κs. search (made-ended, needs))  -- closed-requires
     (λ c. search needs)  -- enum-told
     (λ c. search needs)  -- enum-known-n
-    (λ c κs. search (then-long (within 0x30 (rRows ciaRows next rKeep 0x0106)) (rFill 0x0108), then-took (within 0x30 (rRows ciaRows next rKeep 0x0106)) (rFill 0x0108), made-high, made-room, makes-same, needs))  -- make-fill-requires
+    (λ c κs. closed-next (c .before .before .before .before .before .before .before .before .before .before .before .opened .ensures .1) (c .before .before .before .before .before .before .before .before .before .before .make-sequence .ensures) (c .before .before .before .before .before .before .closed .ensures) (c .before .before .n .given .1) (search needs) (search needs))  -- make-fill-requires
     (λ c. search needs)  -- same-length
-    (λ c. search (then-long (within 0x30 (rRows ciaRows next rKeep 0x0106)) (rFill 0x0108), then-took (within 0x30 (rRows ciaRows next rKeep 0x0106)) (rFill 0x0108), made-high, made-room, makes-same, needs))  -- returns
+    (λ c. search (then-long (within 0x30 (rRows ciaRows next rKeep 0x0106)) (rFill 0x0108), within-made, needs))  -- returns
     (λ c. search needs)  -- same-length-2
-    (λ c. search (then-long (within 0x30 (rRows ciaRows next rKeep 0x0106)) (rFill 0x0108), then-took (within 0x30 (rRows ciaRows next rKeep 0x0106)) (rFill 0x0108), made-high, made-room, makes-same, needs)))  -- returns-2
+    (λ c. search (then-took (within 0x30 (rRows ciaRows next rKeep 0x0106)) (rFill 0x0108), within-made, needs)))  -- returns-2

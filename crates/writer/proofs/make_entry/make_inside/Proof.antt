@@ -1,4 +1,5 @@
-use Rattle.writer.proofs.MakeEntryLaws.{inside-path, inside-objects, onward-behind}
+use Rattle.writer.proofs.MadeLaws.{made-ended, within-made, onward-closed}
+use Rattle.writer.proofs.MakeEntryLaws.{inside-path, inside-objects}
 use borrow.Author.Needs.{needs}
 use Rattle.writer.proofs.make_entry.make_inside.Statement.{statement}
 use Rattle.writer.proofs.make_entry.make_inside.Tie as tie
@@ -9,9 +10,13 @@ make-inside-spec =
     (λ c. search needs)  -- add-byte-at
     (λ c κs. search needs)  -- byte-at-requires
     (λ c κs. search needs)  -- tail-of-requires
-    (λ c κs. search needs)  -- make-named-requires
+    (λ c κs. search needs)  -- opened-requires
+    (λ c κs. search needs)  -- part-element-requires
+    (λ c κs. search (made-ended, needs))  -- closed-requires
     (λ c. search needs)  -- same-length
-    (λ c. search (inside-path, inside-objects, onward-behind, needs))  -- returns
-    (λ c κs. search needs)  -- make-inline-requires
+    (λ c. (search (inside-path, within-made, needs), search (onward-closed, needs)))  -- returns
+    (λ c κs. search needs)  -- opened-requires-2
+    (λ c κs. search needs)  -- make-objects-requires
+    (λ c κs. search (made-ended, needs))  -- closed-requires-2
     (λ c. search needs)  -- same-length-2
-    (λ c. search (inside-path, inside-objects, onward-behind, needs)))  -- returns-2
+    (λ c. (search (inside-objects, within-made, needs), search (onward-closed, needs))))  -- returns-2

@@ -1,4 +1,5 @@
-use Rattle.writer.proofs.MakeObjectLaws.{object-made, object-onward}
+use Rattle.writer.proofs.MadeLaws.{made-ended, within-made, onward-closed}
+use Rattle.writer.proofs.MakeObjectLaws.{object-made}
 use borrow.Author.Needs.{needs}
 use Rattle.writer.proofs.make_object.make_object.Statement.{statement}
 use Rattle.writer.proofs.make_object.make_object.Tie as tie
@@ -11,6 +12,8 @@ make-object-spec =
     (λ c κs. search needs)  -- byte-at-requires
     (λ c. search needs)  -- add-byte-at-2
     (λ c κs. search needs)  -- byte-at-requires-2
-    (λ c κs. search needs)  -- object-element-requires
+    (λ c κs. search needs)  -- opened-requires
+    (λ c κs. search needs)  -- make-contents-requires
+    (λ c κs. search (made-ended, needs))  -- closed-requires
     (λ c. search needs)  -- same-length
-    (λ c. search (object-made, object-onward, needs)))  -- returns
+    (λ c. (search (object-made, within-made, needs), search (onward-closed, needs))))  -- returns

@@ -1,4 +1,4 @@
-use Rattle.writer.proofs.MadeLaws.{when-yes, when-no}
+use Rattle.writer.proofs.MadeLaws.{made-ended, within-made, when-yes, when-no}
 use borrow.Author.Needs.{needs}
 use Rattle.writer.proofs.make_object.make_subclass.Statement.{statement}
 use Rattle.writer.proofs.make_object.make_subclass.Tie as tie
@@ -7,7 +7,9 @@ pub make-subclass-spec : {M : Type 1} → statement M
 make-subclass-spec =
     tie.close (tie.spec
     (λ c κs. search needs)  -- is-next-requires
-    (λ c κs. search needs)  -- subclass-element-requires
+    (λ c κs. search needs)  -- opened-requires
+    (λ c κs. search needs)  -- make-plain-requires
+    (λ c κs. search (made-ended, needs))  -- closed-requires
     (λ c. search needs)  -- same-length
-    (λ c. search (when-yes, needs))  -- returns
+    (λ c. search (when-yes, within-made, needs))  -- returns
     (λ c. search (when-no, needs)))  -- returns-2

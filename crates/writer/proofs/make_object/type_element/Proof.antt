@@ -1,5 +1,4 @@
-use Rattle.writer.proofs.MadeLaws.{made-small}
-use Rattle.writer.proofs.MadeLaws.{within-short, within-long, within-took, made-from, made-room}
+use Rattle.writer.proofs.MadeLaws.{made-ended, within-made}
 use borrow.Author.Needs.{needs}
 use Rattle.writer.proofs.make_object.type_element.Statement.{statement}
 use Rattle.writer.proofs.make_object.type_element.Tie as tie
@@ -7,14 +6,8 @@ use Rattle.writer.proofs.make_object.type_element.Tie as tie
 pub type-element-spec : {M : Type 1} → statement M
 type-element-spec =
     tie.close (tie.spec
-    (λ c. search needs)  -- add-if1
-    (λ c. search (within-short, needs))  -- returns
-    (λ c. search needs)  -- add-make-type
+    (λ c κs. search needs)  -- opened-requires
     (λ c κs. search needs)  -- make-type-requires
-    (λ c. search needs)  -- enum-told
-    (λ c. search needs)  -- enum-known-n
-    (λ c κs. search (made-from, made-room, made-small, needs))  -- closed-requires
+    (λ c κs. search (made-ended, needs))  -- closed-requires
     (λ c. search needs)  -- same-length
-    (λ c. search (within-long, needs))  -- returns-2
-    (λ c. search needs)  -- same-length-2
-    (λ c. search (within-took, needs)))  -- returns-3
+    (λ c. search (within-made, needs)))  -- returns

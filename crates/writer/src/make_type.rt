@@ -1,0 +1,106 @@
+use crate::leaf::make_keep;
+use crate::leaf::make_plain;
+use crate::leaf::make_rest_in;
+use crate::leaf::make_rows;
+use crate::made::Made;
+use crate::made::closed;
+use crate::made::opened;
+use rules::ObjectType;
+use rules::Sequence;
+use rules::is_next;
+ghost use Rattle.rules.specs.Tables.{pathRows, mark};
+ghost use Rattle.rules.specs.Render.{within, when, either, plain, rPath, rPrivate, rCertificate, rPassword, rType};
+ghost use Rattle.rules.specs.Book.{recordsFrom};
+ghost use Rattle.writer.specs.Making.{Making, Makes};
+
+// A Path.
+fn make_path(b: &[u8], i: usize, out: &mut [u8], o: usize) -> Made
+    requires { ⌜ Making (now b) i (now out) o ⌝ }
+    ensures { λ r. ⌜ Makes (now (b .entry)) (now (out .entry)) (now (out .exit)) i o (within 0x30 rPath (recordsFrom (now (b .entry)) i)) r ⌝ }
+{
+    let made = make_rows(b, i, Sequence::Path, out, opened(out.len(), o, 2));
+    closed(out, o, 0x30, made)
+}
+
+// A Path if the next record is one's.
+fn make_due_path(b: &[u8], i: usize, out: &mut [u8], o: usize) -> Made
+    requires { ⌜ Making (now b) i (now out) o ⌝ }
+    ensures { λ r. ⌜ Makes (now (b .entry)) (now (out .entry)) (now (out .exit)) i o (when (mark pathRows) (within 0x30 rPath) (recordsFrom (now (b .entry)) i)) r ⌝ }
+{
+    if is_next(b, i, 0x0180) {
+        return make_path(b, i, out, o);
+    }
+    Made::Took(i, o)
+}
+
+// "Private key, as 30 { Path, modulusLength, rest }": what stands inside.
+fn make_private(b: &[u8], i: usize, out: &mut [u8], o: usize) -> Made
+    requires { ⌜ Making (now b) i (now out) o ⌝ }
+    ensures { λ r. ⌜ Makes (now (b .entry)) (now (out .entry)) (now (out .exit)) i o (rPrivate (recordsFrom (now (b .entry)) i)) r ⌝ }
+{
+    match make_due_path(b, i, out, o) {
+        Made::Long => Made::Long,
+        Made::Took(n, q) => match make_rows(b, n, Sequence::PrivateKeyAttributes, out, q) {
+            Made::Long => Made::Long,
+            Made::Took(m, t) => make_rest_in(b, m, Sequence::PrivateKeyAttributes, out, t),
+        },
+    }
+}
+
+// A Path if the next record is one's, otherwise an element that was sealed.
+fn certificate_value(b: &[u8], i: usize, out: &mut [u8], o: usize) -> Made
+    requires { ⌜ Making (now b) i (now out) o ⌝ }
+    ensures { λ r. ⌜ Makes (now (b .entry)) (now (out .entry)) (now (out .exit)) i o (either (mark pathRows) (within 0x30 rPath) plain (recordsFrom (now (b .entry)) i)) r ⌝ }
+{
+    if is_next(b, i, 0x0180) {
+        return make_path(b, i, out, o);
+    }
+    make_plain(b, i, out, o)
+}
+
+// "Certificate, as 30 { .., rest }": what stands inside.
+fn make_certificate(b: &[u8], i: usize, out: &mut [u8], o: usize) -> Made
+    requires { ⌜ Making (now b) i (now out) o ⌝ }
+    ensures { λ r. ⌜ Makes (now (b .entry)) (now (out .entry)) (now (out .exit)) i o (rCertificate (recordsFrom (now (b .entry)) i)) r ⌝ }
+{
+    match certificate_value(b, i, out, o) {
+        Made::Long => Made::Long,
+        Made::Took(n, q) => make_keep(b, n, 0x018f, out, q),
+    }
+}
+
+// "Password": what stands inside its attributes.
+fn make_password(b: &[u8], i: usize, out: &mut [u8], o: usize) -> Made
+    requires { ⌜ Making (now b) i (now out) o ⌝ }
+    ensures { λ r. ⌜ Makes (now (b .entry)) (now (out .entry)) (now (out .exit)) i o (rPassword (recordsFrom (now (b .entry)) i)) r ⌝ }
+{
+    match make_rows(b, i, Sequence::PasswordAttributes, out, o) {
+        Made::Long => Made::Long,
+        Made::Took(n, q) => match make_due_path(b, n, out, q) {
+            Made::Long => Made::Long,
+            Made::Took(m, t) => make_rest_in(b, m, Sequence::PasswordAttributes, out, t),
+        },
+    }
+}
+
+// "Type is one element".
+pub fn make_type(b: &[u8], i: usize, t: ObjectType, out: &mut [u8], o: usize) -> Made
+    requires { ⌜ Making (now b) i (now out) o ⌝ }
+    ensures { λ r. ⌜ Makes (now (b .entry)) (now (out .entry)) (now (out .exit)) i o (rType t (recordsFrom (now (b .entry)) i)) r ⌝ }
+{
+    match t {
+        ObjectType::PrivateKey => {
+            let made = make_private(b, i, out, opened(out.len(), o, 2));
+            closed(out, o, 0x30, made)
+        }
+        ObjectType::Certificate => {
+            let made = make_certificate(b, i, out, opened(out.len(), o, 2));
+            closed(out, o, 0x30, made)
+        }
+        ObjectType::Password => {
+            let made = make_password(b, i, out, opened(out.len(), o, 2));
+            closed(out, o, 0x30, made)
+        }
+        ObjectType::Sealed => make_keep(b, i, 0x01a0, out, o),
+    }
+}
