@@ -13,4 +13,4 @@ pub told-refused : {r : Outcome} {f : Fault} {c p : ℕ} → r ≡ Refused f p �
 told-refused e g = record { code = rw (e, g) refl; number = rw e refl }
 
 pub said-refused : {r : Place} {f : Fault} {c p : ℕ} (l : ℕ) → r ≡ place.Refused f p → c ≡ numberOf f → PlaceSaid r c p l l
-said-refused l e g = record { code = rw (e, g) refl; offset = rw e refl; length = rw e refl }
+said-refused l e g = record { code = rw (e, g) refl; offset = rw e refl; size = rw e refl }

@@ -43,14 +43,14 @@ abbrev pub offsetIn : Place → ℕ
 offsetIn (place.At p n) = p
 offsetIn (place.Refused f p) = p
 
-abbrev pub lengthIn : Place → ℕ → ℕ
-lengthIn (place.At p n) l = n
-lengthIn (place.Refused f p) l = l
+abbrev pub sizeIn : Place → ℕ → ℕ
+sizeIn (place.At p n) l = n
+sizeIn (place.Refused f p) l = l
 
 pub record PlaceSaid (r : Place) (c n l m : ℕ) : Type 0 where
   pub code : c ≡ fieldCode r
   pub offset : n ≡ offsetIn r
-  pub length : m ≡ lengthIn r l
+  pub size : m ≡ sizeIn r l
 
 pub record FieldExported (b : List ℕ) (i k c n l m : ℕ) : Type 0 where
   pub answer : Place
@@ -79,4 +79,4 @@ one-field-exported {l = l} h g =
     let e = one-place (h .served) (g .served) in
     let t = h .told in
     let u = g .told in
-    (t .code ∙ ap fieldCode e ∙ sym (u .code), t .offset ∙ ap offsetIn e ∙ sym (u .offset), t .length ∙ ap (λ (z : Place). lengthIn z l) e ∙ sym (u .length))
+    (t .code ∙ ap fieldCode e ∙ sym (u .code), t .offset ∙ ap offsetIn e ∙ sym (u .offset), t .size ∙ ap (λ (z : Place). sizeIn z l) e ∙ sym (u .size))

@@ -47,13 +47,13 @@ pub extern "C" fn adarbukoi_list(book: &[u8], rows: &mut [u32], told: &mut u64) 
 }
 
 // A field's payload: its book offset and length.
-fn place(r: Place, offset: &mut u64, length: &mut u64) -> u32
-    ensures { λ c. ⌜ PlaceSaid r c (now (offset .exit)) (now (length .entry)) (now (length .exit)) ⌝ }
+fn place(r: Place, offset: &mut u64, size: &mut u64) -> u32
+    ensures { λ c. ⌜ PlaceSaid r c (now (offset .exit)) (now (size .entry)) (now (size .exit)) ⌝ }
 {
     match r {
         Place::At(p, n) => {
             *offset = p as u64;
-            *length = n as u64;
+            *size = n as u64;
             0
         }
         Place::Refused(f, p) => {
@@ -70,9 +70,9 @@ pub extern "C" fn adarbukoi_field(
     object: u32,
     kind: u32,
     offset: &mut u64,
-    length: &mut u64,
+    size: &mut u64,
 ) -> u32
-    ensures { λ c. ⌜ FieldExported (now (book .entry)) object kind c (now (offset .exit)) (now (length .entry)) (now (length .exit)) ⌝ }
+    ensures { λ c. ⌜ FieldExported (now (book .entry)) object kind c (now (offset .exit)) (now (size .entry)) (now (size .exit)) ⌝ }
 {
-    place(links::field_place(book, object, kind), offset, length)
+    place(links::field_place(book, object, kind), offset, size)
 }
