@@ -85,6 +85,7 @@ own-pays (t, x) = object-pays (ownIdRow .kind) own-elsewhere (λ _. []) card.own
 abbrev Once : ℕ → Type 0
 Once k = Elsewhere k × T (not (among k (layouts.common .all))) × ((c : Class) → times k (layouts.class c .all) ≤ 1)
 
+-- of a class: its table, and its rest
 class-few : (k : ℕ) (c : Class) (x : layouts.class c .part .Of) → Few k (layouts.class c .all) (layouts.class c .part .book x)
 unfolding layouts.class
 class-few k Keys (x, rest) = and-few {l = kindsOf keyRows} (fields-few k keyRows x) (rest-few k 0x013f rest)
@@ -92,10 +93,10 @@ class-few k Certificates (x, rest) = and-few {l = kindsOf certificateRows} (fiel
 class-few k Authentications (x, rest) = and-few {l = kindsOf authenticationRows} (fields-few k authenticationRows x) (rest-few k 0x015f rest)
 class-few k Containers x = one-few k 0x0160 x
 
+-- of an object
 once : (k : ℕ) → Once k → (o : Object) → length (pays k (recordsOf o)) ≤ 1
 once k (e, lacking, few) (t, x) =
-    let y = card.classPart t x in
-    rw (object-pays k e (λ _. []) (λ c x. pays k (layouts.class c .part .book x)) (lacks k layouts.common lacking) (λ c x. refl) t x) (omega (arith, class-few k (classOf t) y .most, few (classOf t)))
+    rw (object-pays k e (λ _. []) (λ c x. pays k (layouts.class c .part .book x)) (lacks k layouts.common lacking) (λ c x. refl) t x) (omega (arith, class-few k (classOf t) (card.classPart t x) .most, few (classOf t)))
 
 -- a certificate's identifier, 0140, and an authentication object's own, 0150
 pub certificate-once : (o : Object) → length (pays (certificateIdRow .kind) (recordsOf o)) ≤ 1

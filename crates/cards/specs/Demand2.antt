@@ -6,6 +6,7 @@ use mathlib.Core.List.{List}
 use native.Mathlib.Omega.{arith}
 use lib.ListN.{length}
 use Rattle.elements.specs.declared.fault.Fault.{Fault}
+use Rattle.elements.specs.Faults.{numberOf}
 use Rattle.elements.specs.Lists.{Bytes}
 use Rattle.rules.specs.Reading.{Rec}
 use Rattle.rules.specs.Files.{accepted, refused, readDump}
@@ -76,4 +77,8 @@ book-most {d} h = omega (arith, book-bound h, laws.laid-out d (h .records) (h .b
 
 -- "in every refusal but 14 it lies from 0 to the input's length"
 pub place-in-dump : (d : List ℕ) {f : Fault} {p : ℕ} → Bytes d → readDump d ≡ refused f p → p ≤ length d
-place-in-dump d {f} {p} c e = dumps.place d f p c e
+place-in-dump d {f} {p} c e = dumps.told d f p c e .0
+
+-- 14, 15 and 16 are no faults of a dump
+pub fault-of-a-dump : (d : List ℕ) {f : Fault} {p : ℕ} → Bytes d → readDump d ≡ refused f p → (numberOf f ≡ 14 → ⊥) × (numberOf f ≡ 15 → ⊥) × (numberOf f ≡ 16 → ⊥)
+fault-of-a-dump d {f} {p} c e = let t = dumps.told d f p c e .1 in ((λ z. rw z at t), (λ z. rw z at t), (λ z. rw z at t))

@@ -15,6 +15,7 @@ use Rattle.rules.specs.Files as files
 use Rattle.rules.specs.Files.{Name, File, fine, pathOf, frames, follow, directories}
 use Rattle.rules.specs.Grammar.{Part, total, flat}
 use Rattle.rules.specs.ElementLaws.{is-end}
+use Rattle.rules.specs.FaultLaws.{Told}
 use Rattle.rules.specs.GrammarLaws.{close, Marks, marks-append, Facts, Reads, refuses, takes, BodyLaw, PlainBody, inside-law}
 use Rattle.rules.specs.ItemLaws.{recount-body}
 use Rattle.rules.specs.ConditionLaws.{total-length}
@@ -76,7 +77,7 @@ pub record DirFacts (s : List ℕ) (ns : List Name) (k at : ℕ) (rs : List Rec)
 
 -- what reading them comes to
 pub data DirReads (s : List ℕ) (ns : List Name) (k at : ℕ) : Res → Type 0 where
-  no-dir : {f : Fault} (p : ℕ) → p ≤ length s → DirReads s ns k at (fails f p)
+  no-dir : {f : Fault} (p : ℕ) → Told s f p → DirReads s ns k at (fails f p)
   dirs : {rs : List Rec} {ms : List ℕ} {n : ℕ} → DirFacts s ns k at rs ms → DirReads s ns k at (took rs ms n)
 
 -- a card's files stand there: they are framed, they follow, and they are read

@@ -1,4 +1,4 @@
--- A dump is accepted if and only if it is the dump of a card; and a refusal's place lies in the dump.
+-- A dump is accepted if and only if it is the dump of a card; and what a refusal tells.
 use Prim.Native.Nat.{ℕ, _+_, _≤_}
 use mathlib.Core.List.{List, [], _++_}
 use mathlib.Core.Path.{_≡_, refl, sym, ap, _∙_, subst}
@@ -19,6 +19,7 @@ use Rattle.rules.specs.Files.{Name, File, Framed, Files, Check, Answer, accepte
 use Rattle.rules.specs.Book.{encode}
 use Rattle.rules.specs.Meaning.{AcceptedBook}
 use Rattle.rules.specs.Grammar.{Part, flat}
+use Rattle.rules.specs.FaultLaws.{Told}
 use Rattle.rules.specs.GrammarLaws.{close, marks-append, Facts, Reads, refuses, takes}
 use Rattle.cards.specs.Card as card
 use Rattle.cards.specs.Card.{inEntry, inFiles, Card, dumpOf, bookOf, Meets}
@@ -31,14 +32,14 @@ pub use Rattle.cards.specs.DirectoryLaws.{DirFacts, dirs-read}
 
 -- what reading a dump comes to
 data CardReads (s : List ℕ) : Answer → Type 0 where
-  declines : {f : Fault} (p : ℕ) → p ≤ length s → CardReads s (refused f p)
+  declines : {f : Fault} (p : ℕ) → Told s f p → CardReads s (refused f p)
   accepts : {rs : List Rec} (c : Card) → Meets c → dumpOf c ≡ s → bookOf c ≡ rs → CardReads s (accepted rs)
 
 -- by what a stage comes to
 module _ {s : List ℕ} where
   -- a record's frame
   on-frame : {kind at : ℕ} {k : File → Answer} → Bytes s → at ≤ length s → ((f : File) → Frame s kind [] at f → CardReads s (k f)) → CardReads s (onFramed (frame s kind at) k)
-  on-frame {kind} {at} {k} bytes h g = by-frame s bytes (λ (r : Framed). CardReads s (onFramed r k)) kind at (λ _. declines at h) g
+  on-frame {kind} {at} {k} bytes h g = by-frame s bytes (λ (r : Framed). CardReads s (onFramed r k)) kind at (λ _ t. declines at (h, t)) g
 
   -- the frames of the files
   on-chain : {at : ℕ} {r : Files} {k : List File → Answer} → ChainReads s at r → ((fs : List File) → Chain s at fs → CardReads s (k fs)) → CardReads s (onFiles r k)
@@ -82,7 +83,7 @@ module _ (s : List ℕ) (bytes : Bytes s) (small : length s ≤ 32768) where
       let ns = card.namesOf main in
       let ps = paths ns in
       rw (g .book, od-names main) (by-choose (CardReads s) (ltb (firstAgain [] ps) (length ps))
-      (λ _ _. declines (entryPlace s (length s) (firstAgain [] ps) (o .stop) (o .start)) (entry-place s (length s) (firstAgain [] ps) (o .stop) (o .start) (w .order) (w .inside)))
+      (λ _ _. declines (entryPlace s (length s) (firstAgain [] ps) (o .stop) (o .start)) (entry-place s (length s) (firstAgain [] ps) (o .stop) (o .start) (w .order) (w .inside), tt))
       (λ _ p. on-follow (follow-sound s bytes ns ch) (λ _ fl. on-dirs (dirs-sound s bytes small fl (length ms) (omega (arith, g .room, g .counted))) (λ ds mds d.
       on-ids (ids-sound (length s) [] 0 (ms ++ mds) (card.od .book main ++ ds) (omega arith) (marks-append (length s) ms mds (g .marks) (d .marks))) (λ _ q.
       let it : Card = record { info = f .it; main = main; dirs = d .it } in
@@ -145,7 +146,7 @@ dump-reads s bytes = by-choose (CardReads s) (leb (length s) 32768)
     on-part (cia-law s bytes small .sound 0 (c .start) (c .stop) (omega arith) (v .order) (v .inside)) (λ bs mb i f.
     on-part (od-law s bytes small .sound 0 (o .start) (o .stop) (omega arith) (w .order) (w .inside)) (λ cs ms j g.
     files-sound s bytes small c o v w f g ch))))))
-    (λ _ _. declines 0 (omega arith))
+    (λ _ _. declines 0 (omega arith, tt))
 
 -- a dump that is accepted is the dump of a card, and its records are the card's book
 pub accepted-card : (d : List ℕ) (rs : List Rec) → Bytes d → readDump d ≡ accepted rs → CardOf d rs
@@ -177,9 +178,9 @@ accepted-books b = (
       record { dump = dumpOf (c .0); has = record { bytes = c .2; records = bookOf (c .0); reads = r; book = c .3 } }),
 )
 
--- a refusal's place lies in the dump
-pub place : (d : List ℕ) (f : Fault) (p : ℕ) → Bytes d → readDump d ≡ refused f p → p ≤ length d
-place d f p bytes e = go (subst (CardReads d) e (dump-reads d bytes))
+-- a refusal's fault is one of reading, and its place lies in the dump
+pub told : (d : List ℕ) (f : Fault) (p : ℕ) → Bytes d → readDump d ≡ refused f p → Told d f p
+told d f p bytes e = go (subst (CardReads d) e (dump-reads d bytes))
   where
-    go : CardReads d (refused f p) → p ≤ length d
+    go : CardReads d (refused f p) → Told d f p
     go (declines x o) = o

@@ -6,7 +6,7 @@ use native.Mathlib.Omega.{arith}
 use native.Mathlib.Nat.{le-refl}
 use lib.ListN.{length, getD, length-append}
 use lib.Seq.{slice, slice-empty, length-slice}
-use lib.Dec.{ltb, leb, eqb}
+use lib.Dec.{ltb, leb, eqb, T}
 use borrow.Author.Tests.{ltb-false, lt-ltb, le-ltb, lt-leb, eqb-true, eq-eqb}
 use Rattle.elements.specs.declared.fault.Fault.{Fault}
 use Rattle.elements.specs.declared.fault.Fault.the-variants.{RecordMissing, RecordBroken, RecordKind, PathLength, FileLength}
@@ -15,6 +15,7 @@ use Rattle.elements.specs.Lists.{Bytes, Begins, begins, join, cons}
 use Rattle.elements.specs.Record.{recordBytes}
 use Rattle.rules.specs.Files.{Name, File, Framed, framed, broken, Files, files, brokenAt, Check, fine, wrongAt, equal, two, frameOf, fileIn, frame, namedFile, namedFrame, consFile, moreFiles, frames, pathOf, follow}
 use Rattle.rules.specs.ElementLaws.{parted}
+use Rattle.rules.specs.FaultLaws.{ofReading, Told}
 use Rattle.rules.specs.ValueLaws.{two-bytes}
 use Rattle.rules.specs.EqualLaws.{equal-is}
 
@@ -56,25 +57,25 @@ module _ (s : List ℕ) (bytes : Bytes s) where
       four s at (at + 2 + two s at) (omega arith) l ∙ rw (n, b .0, b .1, c .0, c .1) refl
 
   -- by the record at a place
-  by-record : (P : Framed → Type 0) (kind at : ℕ) (inner : ℕ → ℕ → Framed) → ((x : Fault) → P (broken x at)) →
+  by-record : (P : Framed → Type 0) (kind at : ℕ) (inner : ℕ → ℕ → Framed) → ((x : Fault) → T (ofReading x) → P (broken x at)) →
       (2 ≤ two s at → at + 2 + two s at ≤ length s → two s (at + 2) ≡ kind → P (inner (at + 4) (at + 2 + two s at))) → P (frameOf s kind inner at)
   unfolding frameOf
   by-record P kind at inner bad f =
-      by-choose P (leb (length s) at) (λ _ _. bad RecordMissing) (λ _ _.
-      by-choose P (ltb (length s) (at + 4)) (λ _ _. bad RecordBroken) (λ _ _.
-      by-choose P (ltb (two s at) 2) (λ _ _. bad RecordBroken) (λ _ b.
-      by-choose P (ltb (length s) (at + 2 + two s at)) (λ _ _. bad RecordBroken) (λ _ c.
+      by-choose P (leb (length s) at) (λ _ _. bad RecordMissing tt) (λ _ _.
+      by-choose P (ltb (length s) (at + 4)) (λ _ _. bad RecordBroken tt) (λ _ _.
+      by-choose P (ltb (two s at) 2) (λ _ _. bad RecordBroken tt) (λ _ b.
+      by-choose P (ltb (length s) (at + 2 + two s at)) (λ _ _. bad RecordBroken tt) (λ _ c.
       by-choose P (eqb (two s (at + 2)) kind) (λ _ d. f (ltb-false (two s at) 2 b) (ltb-false (length s) (at + 2 + two s at) c) (eqb-true (two s (at + 2)) kind d))
-      (λ _ _. bad RecordKind)))))
+      (λ _ _. bad RecordKind tt)))))
 
   -- by the file in it, behind n bytes
-  by-file : (P : Framed → Type 0) (kind at n : ℕ) → 2 ≤ two s at → at + 2 + two s at ≤ length s → two s (at + 2) ≡ kind → ((x : Fault) → P (broken x at)) →
+  by-file : (P : Framed → Type 0) (kind at n : ℕ) → 2 ≤ two s at → at + 2 + two s at ≤ length s → two s (at + 2) ≡ kind → ((x : Fault) → T (ofReading x) → P (broken x at)) →
       (let f : File = record { place = at; named = at + 4 + 1; start = at + 4 + n; stop = at + 2 + two s at } in Frame s kind (slice (at + 4) (at + 4 + n) s) at f → P (framed f)) → P (fileIn s at n (at + 4) (at + 2 + two s at))
   unfolding fileIn
   by-file P kind at n g l k bad good =
       let e = at + 2 + two s at in
-      by-choose P (ltb e (at + 4 + n)) (λ _ _. bad PathLength) (λ _ u.
-      by-choose P (ltb 16383 (e - (at + 4 + n))) (λ _ _. bad FileLength) (λ _ v.
+      by-choose P (ltb e (at + 4 + n)) (λ _ _. bad PathLength tt) (λ _ u.
+      by-choose P (ltb 16383 (e - (at + 4 + n))) (λ _ _. bad FileLength tt) (λ _ v.
       let o : at + 4 + n ≤ e = ltb-false e (at + 4 + n) u in
       good (record {
         order = o;
@@ -84,7 +85,7 @@ module _ (s : List ℕ) (bytes : Bytes s) where
       })))
 
   -- by CIAInfo's record and EF.OD's
-  pub by-frame : (P : Framed → Type 0) (kind at : ℕ) → ((x : Fault) → P (broken x at)) → ((f : File) → Frame s kind [] at f → P (framed f)) → P (frame s kind at)
+  pub by-frame : (P : Framed → Type 0) (kind at : ℕ) → ((x : Fault) → T (ofReading x) → P (broken x at)) → ((f : File) → Frame s kind [] at f → P (framed f)) → P (frame s kind at)
   unfolding frame
   by-frame P kind at bad good = by-record P kind at (λ a e. fileIn s at 0 a e) bad (λ g l k.
       by-file P kind at 0 g l k bad (λ w.
@@ -93,15 +94,15 @@ module _ (s : List ℕ) (bytes : Bytes s) where
       good (record { place = at; named = at + 4 + 1; start = at + 4 + 0; stop = at + 2 + two s at }) (rw y at w)))
 
   -- by a directory file's record
-  by-named : (P : Framed → Type 0) (at : ℕ) → ((x : Fault) → P (broken x at)) → ((f : File) → NamedFile s at f → P (framed f)) → P (namedFrame s at)
+  by-named : (P : Framed → Type 0) (at : ℕ) → ((x : Fault) → T (ofReading x) → P (broken x at)) → ((f : File) → NamedFile s at f → P (framed f)) → P (namedFrame s at)
   unfolding namedFrame namedFile
   by-named P at bad good = by-record P 3 at (namedFile s at) bad (λ g l q.
       let a = at + 4 in
       let e = at + 2 + two s at in
       let k = getD s a 0 in
-      by-choose P (leb e a) (λ _ _. bad PathLength) (λ _ _.
-      by-choose P (ltb k 1) (λ _ _. bad PathLength) (λ _ u.
-      by-choose P (ltb 64 k) (λ _ _. bad PathLength) (λ _ v.
+      by-choose P (leb e a) (λ _ _. bad PathLength tt) (λ _ _.
+      by-choose P (ltb k 1) (λ _ _. bad PathLength tt) (λ _ u.
+      by-choose P (ltb 64 k) (λ _ _. bad PathLength tt) (λ _ v.
       by-file P 3 at (1 + k) g l q bad (λ w.
       let y : k ≤ 64 = ltb-false 64 k v in
       let o : a + (1 + k) ≤ e = w .order in
@@ -175,7 +176,7 @@ pub data Chain (s : List ℕ) : ℕ → List File → Type 0 where
 
 -- what the frames come to
 pub data ChainReads (s : List ℕ) (at : ℕ) : Files → Type 0 where
-  no-chain : {x : Fault} (p : ℕ) → p ≤ length s → ChainReads s at (brokenAt x p)
+  no-chain : {x : Fault} (p : ℕ) → Told s x p → ChainReads s at (brokenAt x p)
   chain : {fs : List File} → Chain s at fs → ChainReads s at (files fs)
 
 -- and named by the entries in turn
@@ -185,7 +186,7 @@ pub data Follows (s : List ℕ) : ℕ → List Name → List File → Type 0 whe
 
 -- what comparing their paths comes to
 pub data FollowReads (s : List ℕ) (at : ℕ) (ns : List Name) (fs : List File) : Check → Type 0 where
-  no-follow : {x : Fault} (p : ℕ) → p ≤ length s → FollowReads s at ns fs (wrongAt x p)
+  no-follow : {x : Fault} (p : ℕ) → Told s x p → FollowReads s at ns fs (wrongAt x p)
   follows : Follows s at ns fs → FollowReads s at ns fs fine
 
 module _ (s : List ℕ) (bytes : Bytes s) where
@@ -197,10 +198,10 @@ module _ (s : List ℕ) (bytes : Bytes s) where
   -- the frames up to the end
   pub chain-sound : (g at : ℕ) → at ≤ length s → ChainReads s at (frames s g at)
   unfolding frames
-  chain-sound zero at h = by-choose (ChainReads s at) (ltb at (length s)) (λ _ _. no-chain at h) (λ _ e. chain (over (omega (arith, ltb-false at (length s) e))))
+  chain-sound zero at h = by-choose (ChainReads s at) (ltb at (length s)) (λ _ _. no-chain at (h, tt)) (λ _ e. chain (over (omega (arith, ltb-false at (length s) e))))
   chain-sound (suc g) at h =
       by-choose (ChainReads s at) (ltb at (length s))
-      (λ _ _. by-named s bytes (λ (r : Framed). ChainReads s at (moreFiles s r (λ n. frames s g n))) at (λ _. no-chain at h) (λ f w. link-up w (chain-sound g (f .stop) (w .stands .inside))))
+      (λ _ _. by-named s bytes (λ (r : Framed). ChainReads s at (moreFiles s r (λ n. frames s g n))) at (λ _ t. no-chain at (h, t)) (λ f w. link-up w (chain-sound g (f .stop) (w .stands .inside))))
       (λ _ e. chain (over (omega (arith, ltb-false at (length s) e))))
 
   -- one that its entry names before the others
@@ -212,10 +213,10 @@ module _ (s : List ℕ) (bytes : Bytes s) where
   pub follow-sound : {at : ℕ} {fs : List File} (ns : List Name) → Chain s at fs → FollowReads s at ns fs (follow s ns fs)
   unfolding follow
   follow-sound [] (over e) = follows (both e)
-  follow-sound [] (link {f = f} w c) = no-follow (f .place) (w .placed)
-  follow-sound (n ∷ ns) (over e) = no-follow (length s) (le-refl (length s))
+  follow-sound [] (link {f = f} w c) = no-follow (f .place) (w .placed, tt)
+  follow-sound (n ∷ ns) (over e) = no-follow (length s) (le-refl (length s), tt)
   follow-sound {at} (n ∷ ns) (link {f = f} {fs = fs} w c) =
-      by-choose (FollowReads s at (n ∷ ns) (f ∷ fs)) (equal (n .path) (pathOf s f)) (λ _ e. follow-more w (equal-is (n .path) (pathOf s f) e) (follow-sound ns c)) (λ _ _. no-follow (f .place) (w .placed))
+      by-choose (FollowReads s at (n ∷ ns) (f ∷ fs)) (equal (n .path) (pathOf s f)) (λ _ e. follow-more w (equal-is (n .path) (pathOf s f) e) (follow-sound ns c)) (λ _ _. no-follow (f .place) (w .placed, tt))
 
 module _ (s : List ℕ) where
   -- no more frames at the end

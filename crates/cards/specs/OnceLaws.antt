@@ -6,7 +6,7 @@ use mathlib.Core.Path.{_≡_, refl, sym}
 use native.Mathlib.Omega.{arith}
 use native.Mathlib.Nat.{le-trans}
 use lib.ListN.{length, getD, drop}
-use lib.Dec.{ltb, eqb}
+use lib.Dec.{ltb, eqb, T}
 use borrow.Author.Tests.{ltb-false, le-ltb, eqb-true}
 use Rattle.elements.specs.declared.fault.Fault.{Fault}
 use Rattle.elements.specs.declared.answer.Head.{Head}
@@ -17,6 +17,7 @@ use Rattle.elements.specs.HeaderLaws.{header-in}
 use Rattle.rules.specs.Reading.{Rec}
 use Rattle.rules.specs.Tables.{ownIdRow}
 use Rattle.rules.specs.Files.{Check, fine, wrongAt, isNaming, endOf, entryPlace, equal, met, firstAgain, repeated}
+use Rattle.rules.specs.FaultLaws.{ofReading}
 use Rattle.rules.specs.GrammarLaws.{or-false, Marks}
 use Rattle.rules.specs.TestLaws.{clash}
 use Rattle.rules.specs.EqualLaws.{equal-is, equal-self}
@@ -107,9 +108,9 @@ module _ (s : List ℕ) where
       (λ _ _. entry-place g m end (endOf s at (header s at end)) i l))
       (λ _ _. le-trans h l)
 
--- what 13 comes to: a place that lies in the dump, or new identifiers
+-- what 13 comes to: a fault of reading at a place that lies in the dump, or new identifiers
 pub data IdsRead (n : ℕ) (before ids : List (List ℕ)) : Check → Type 0 where
-  again : {f : Fault} (p : ℕ) → p ≤ n → IdsRead n before ids (wrongAt f p)
+  again : {f : Fault} (p : ℕ) → (p ≤ n) × T (ofReading f) → IdsRead n before ids (wrongAt f p)
   new : New before ids → IdsRead n before ids fine
 
 -- the first place lies in the dump
@@ -139,7 +140,7 @@ ids-sound n before place ps (r ∷ rs) h m =
     by-choose (IdsRead n before (idsOf (r ∷ rs))) (eqb (r .kind) 0x0120)
     (λ _ e. rw (not-own (r .kind) e) (ids-sound n before (getD ps 0 0) (drop 1 ps) rs (marks-head n ps m) (marks-tail n ps m)))
     (λ _ _. by-choose (IdsRead n before (idsOf (r ∷ rs))) (eqb (r .kind) (ownIdRow .kind))
-    (λ _ e. rw e (by-choose (IdsRead n before (r .pay ∷ idsOf rs)) (met (r .pay) before) (λ _ _. again place h) (λ _ f. ids-cons f (ids-sound n (r .pay ∷ before) place ps rs h m))))
+    (λ _ e. rw e (by-choose (IdsRead n before (r .pay ∷ idsOf rs)) (met (r .pay) before) (λ _ _. again place (h, tt)) (λ _ f. ids-cons f (ids-sound n (r .pay ∷ before) place ps rs h m))))
     (λ _ e. rw e (ids-sound n before place ps rs h m)))
 
 -- and all that are new

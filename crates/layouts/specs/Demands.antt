@@ -15,7 +15,7 @@ use Rattle.rules.specs.Files.{Answer, accepted, refused, readDump}
 use Rattle.rules.specs.Book.{encode}
 use Rattle.rules.specs.Write.{Written, written, noBook, writeDump}
 use Rattle.rules.specs.Meaning.{Has, AcceptedBook}
-use Rattle.cards.specs.Demand2.{place-in-dump, read-then-written, written-then-read, refused-if-none, none-if-refused}
+use Rattle.cards.specs.Demand2.{place-in-dump, fault-of-a-dump, read-then-written, written-then-read, refused-if-none, none-if-refused}
 use Rattle.layouts.specs.GivingLaws.{unhanded, handed-first, fitting, too-long}
 use Rattle.layouts.specs.Service.{Served, served, giving, byAnswer, reading, ReadTold, byWritten, writing, WriteTold}
 
@@ -44,18 +44,18 @@ no-book b a c {f} {p} e q =
     (ap (λ (y : Served). y .lent) q, record { number = ap numberOf z; place = cc; lacking = none-if-refused e })
 
 module _ {a b : List ℕ} {f : Fault} {p : ℕ} where
-  -- "A refusal gives its number and place, and the lent output is what it was": the definition's, its place "from 0 to the input's length"; or 14
-  pub read-refusal : {d : List ℕ} → Bytes d → ReadTold d a b (Refused f p) → (b ≡ a) × (((readDump d ≡ refused f p) × (p ≤ length d)) ⊎ Short (λ x. Has d x) a f p)
+  -- "A refusal gives its number and place, and the lent output is what it was": the definition's, its place "from 0 to the input's length" and its number another than 14; or 14
+  pub read-refusal : {d : List ℕ} → Bytes d → ReadTold d a b (Refused f p) → (b ≡ a) × (((readDump d ≡ refused f p) × (p ≤ length d) × (numberOf f ≡ 14 → ⊥)) ⊎ Short (λ x. Has d x) a f p)
   unfolding reading
   read-refusal {d} bytes h = go (readDump d) refl (h .is)
     where
-      go : (w : Answer) → readDump d ≡ w → served (Refused f p) b ≡ byAnswer w a → (b ≡ a) × (((w ≡ refused f p) × (p ≤ length d)) ⊎ Short (λ x. Has d x) a f p)
+      go : (w : Answer) → readDump d ≡ w → served (Refused f p) b ≡ byAnswer w a → (b ≡ a) × (((w ≡ refused f p) × (p ≤ length d) × (numberOf f ≡ 14 → ⊥)) ⊎ Short (λ x. Has d x) a f p)
       go (accepted rs) e q = let u = short {Asked = λ x. Has d x} (encode rs) a b (record { bytes = bytes; records = rs; reads = e; book = refl }) q in (u .0, inr (u .1))
       go (refused g r) e q =
           let y : Refused f p ≡ Refused g r = ap (λ (y : Served). y .answer) q in
           let z : r ≡ p = cc in
           let v : g ≡ f = cc in
-          (ap (λ (y : Served). y .lent) q, inl (rw (v, z) refl, rw z at (place-in-dump d bytes e)))
+          (ap (λ (y : Served). y .lent) q, inl (rw (v, z) refl, rw z at (place-in-dump d bytes e), rw (← v) (fault-of-a-dump d bytes e .0)))
 
   -- and of a book: 15, or 14
   pub write-refusal : {x : List ℕ} → Bytes x → WriteTold x a b (Refused f p) → (b ≡ a) × (NoBook x f p ⊎ Short (λ d. Has d x) a f p)

@@ -1,4 +1,5 @@
 pub mod Links
+pub mod ClassLaws
 pub mod AnswerLaws
 pub mod RisingLaws
 pub mod WholeLaws

@@ -5,7 +5,7 @@ use mathlib.Core.Bool.{Bool, true, false}
 use mathlib.Core.Option.{Option, none, some}
 use mathlib.Core.Path.{_≡_, refl}
 use native.Mathlib.Omega.{arith}
-use lib.Dec.{eqb}
+use lib.Dec.{eqb, T}
 use borrow.Author.Tests.{eqb-false, ne-eqb}
 use Rattle.elements.specs.declared.fault.Fault.{Fault}
 use Rattle.elements.specs.declared.fault.Fault.the-variants.{PathPair, PasswordFlags}
@@ -16,6 +16,7 @@ use Rattle.rules.specs.Parts.{keptOut}
 use Rattle.rules.specs.Tables.{pathRows, indexRow, lengthRow, passwordRows}
 use Rattle.rules.specs.Rulings.{has, same, paired, flagged}
 use Rattle.rules.specs.ValueLaws.{number-le32}
+use Rattle.rules.specs.FaultLaws.{ofReading}
 use Rattle.rules.specs.Grammar.{Part, _and_, optional, tagged, rest, fields}
 use Rattle.rules.specs.Lawful.{Judges, passes, refuses, Checks}
 
@@ -29,18 +30,18 @@ BothOrNeither none (some l) = ⊥
 BothOrNeither (some i) none = ⊥
 BothOrNeither (some i) (some l) = Unit {0}
 
-judge : (own : ℕ) (x : Fault) (w : Res) (b : Bool) → Judges own w (choose b (λ _. w) (λ _. fails x own))
-judge own x w true = passes refl
-judge own x w false = refuses x refl
+judge : (own : ℕ) (x : Fault) → T (ofReading x) → (w : Res) (b : Bool) → Judges own w (choose b (λ _. w) (λ _. fails x own))
+judge own x t w true = passes refl
+judge own x t w false = refuses x t refl
 
-judge-not : (own : ℕ) (x : Fault) (w : Res) (b : Bool) → Judges own w (choose b (λ _. fails x own) (λ _. w))
-judge-not own x w true = refuses x refl
-judge-not own x w false = passes refl
+judge-not : (own : ℕ) (x : Fault) → T (ofReading x) → (w : Res) (b : Bool) → Judges own w (choose b (λ _. fails x own) (λ _. w))
+judge-not own x t w true = refuses x t refl
+judge-not own x t w false = passes refl
 
 pub pairs : Checks (fields pathRows) paired (λ (p, (index, (len, _))). BothOrNeither index len)
 pairs = record {
   fallen = λ own x p. refl;
-  judges = λ own bs ms n. judge own PathPair (took bs ms n) (same (has (indexRow .kind) bs) (has (lengthRow .kind) bs));
+  judges = λ own bs ms n. judge own PathPair tt (took bs ms n) (same (has (indexRow .kind) bs) (has (lengthRow .kind) bs));
   sound = λ own y m ms n e. sound own (y .0) (y .1 .0) (y .1 .1 .0) ms n e;
   complete = λ own y m z ms n. complete own (y .0) (y .1 .0) (y .1 .1 .0) ms n z;
 }
@@ -63,7 +64,7 @@ passwordPart path = fields passwordRows and optional (tagged 0x30 path) and rest
 
 flagged-judges : (own : ℕ) (bs : List Rec) (ms : List ℕ) (n : ℕ) → Judges own (took bs ms n) (flagged own (took bs ms n))
 flagged-judges own [] ms n = passes refl
-flagged-judges own (r ∷ bs) ms n = judge-not own PasswordFlags (took (r ∷ bs) ms n) (eqb (number (r .pay) / 64 % 4) 3)
+flagged-judges own (r ∷ bs) ms n = judge-not own PasswordFlags tt (took (r ∷ bs) ms n) (eqb (number (r .pay) / 64 % 4) 3)
 
 pub flags : (path : Part) → Checks (passwordPart path) flagged (λ (((bits, _), _), _). bits / 64 % 4 ≡ 3 → ⊥)
 flags path = record {

@@ -9,7 +9,6 @@ use lib.ListN.{length}
 use lib.Seq.{slice, slice-empty}
 use lib.Dec.{ltb, leb, eqb}
 use borrow.Author.Tests.{ltb-true, ltb-false, lt-ltb, le-ltb, leb-true, le-leb, eqb-true, eq-eqb}
-use Rattle.elements.specs.declared.fault.Fault.the-variants.{BadSize}
 use Rattle.elements.specs.Choice.{choose}
 use Rattle.elements.specs.ChoiceLaws.{by-choose}
 use Rattle.elements.specs.Lists.{Bytes}
@@ -99,7 +98,7 @@ module _ (s : List ℕ) (bytes : Bytes s) (small : length s ≤ 32768) where
   identifier-law : (c : Condition) → SortLaw Identifier (sorts c Identifier)
   unfolding sortBy identified
   identifier-law c = tag-law Identifier (raw (rec (kindOf Identifier)) (λ c. length c ≤ 255)) refl (λ _. tt) (λ y e. rw e refl) (low-tag 0x04 tt)
-      (lift-body 0 255 (omega arith) (raw-law (rec 0x0127) (λ c. length c ≤ 255) (λ n. leb n 255) BadSize (λ c. leb-true (length c) 255) (λ c. le-leb (length c) 255)))
+      (lift-body 0 255 (omega arith) (raw-law (rec 0x0127) (λ c. length c ≤ 255) (λ n. leb n 255) (λ c. leb-true (length c) 255) (λ c. le-leb (length c) 255)))
 
   other-law : (c : Condition) → SortLaw Other (sorts c Other)
   other-law c = narrow (OfSort Other) (λ y d. rw (d .0) refl) (λ y d. (is-other (sortBy tagOf (firstOf y)) d, tt)) (lift-item 0 255 (omega arith) (sealed-law s bytes small (λ t. isOther (sortBy tagOf t)) (kindOf Other) (λ _. [])))
@@ -129,7 +128,7 @@ module _ (s : List ℕ) (bytes : Bytes s) (small : length s ≤ 32768) where
           room = omega arith;
           closes = f .closes;
         }))
-        (λ _ _. refuses e l)
+        (λ _ _. refuses e (l, tt))
 
     list-body : (kind : ℕ) → BodyLaw s (λ at a e. listed kind e (repeat toEnd (λ j f i. c .read s j f i) (e - a) 0 e a)) (listPart kind) (λ _. 0) 0 255
     list-body kind =
@@ -197,8 +196,8 @@ module _ (s : List ℕ) (bytes : Bytes s) (small : length s ≤ 32768) where
       sound = λ y i _ end at a e st l.
           let t = firstOf y in
           let o : at ≤ length s = omega (arith, st .after, st .order, st .inside) in
-          by-choose (Reads s (one here) inHere 0 255 close e at) (eqb t (tagOf Always) && ltb a e) (λ _ _. refuses at o) (λ _ q.
-          by-choose (Reads s (one here) inHere 0 255 close e at) (ltb 255 nth) (λ _ _. refuses at o) (λ _ _.
+          by-choose (Reads s (one here) inHere 0 255 close e at) (eqb t (tagOf Always) && ltb a e) (λ _ _. refuses at (o, tt)) (λ _ q.
+          by-choose (Reads s (one here) inHere 0 255 close e at) (ltb 255 nth) (λ _ _. refuses at (o, tt)) (λ _ _.
           mapped-reads (sorts c (sortBy tagOf t) .item) here inHere (λ j. (sortBy tagOf t, j)) (λ _. refl) (λ _. refl) (λ _ m. m) (λ _. refl)
           (sort-law (sortBy tagOf t) .sound y i (refl, bare (sortBy tagOf t) t a e (st .order) (omega (arith, st .inside)) (found-sort tagOf t) q (y .contents) (st .within)) end at a e st l)));
       is = λ i m. sort-law (i .0) .is (i .1) m;
@@ -213,8 +212,8 @@ module _ (s : List ℕ) (bytes : Bytes s) (small : length s ≤ 32768) where
         let Z : Res → Type 0 = λ x. Reads s (one here) (λ _. 1) k 255 (tags []) end at (counts at x) in
         by-choose Z (ltb at end)
         (λ _ _. by-head s bytes small Z (parts.whatever (bodyBySort (sorts c) s (k + 1)) at) end at i l (λ _ p o. refuses p o)
-        (λ t a e v. by-choose Z (eqb t (tagOf Always) && ltb a e) (λ _ _. refuses at (omega arith)) (λ _ _. rw (lt-ltb 255 (k + 1) h) (refuses at (omega arith)))))
-        (λ _ _. refuses end l)
+        (λ t a e v. by-choose Z (eqb t (tagOf Always) && ltb a e) (λ _ _. refuses at (omega arith, tt)) (λ _ _. rw (lt-ltb 255 (k + 1) h) (refuses at (omega arith, tt)))))
+        (λ _ _. refuses end (l, tt))
 
     by-sort-law : (k : ℕ) → k ≤ 255 → Law s (bySort (sorts c) .read s k) (one here) (λ _. 1) k 255 condLook
     by-sort-law k h = go (ltb 255 (k + 1)) refl
@@ -242,7 +241,7 @@ module _ (s : List ℕ) (bytes : Bytes s) (small : length s ≤ 32768) where
   pub condition-law : (l k : ℕ) → k ≤ 255 → Law s (condition l .read s k) (one (condition l .item)) (λ _. 1) k 255 condLook
   unfolding condition
   condition-law zero k h = record {
-    sound = λ end at i l. by-choose (Reads s (one never) (λ _. 1) k 255 (tags []) end at) (ltb at end) (λ _ _. refuses at (omega arith)) (λ _ _. refuses end l);
+    sound = λ end at i l. by-choose (Reads s (one never) (λ _. 1) k 255 (tags []) end at) (ltb at end) (λ _ _. refuses at (omega arith, tt)) (λ _ _. refuses end (l, tt));
     starts = λ x y. absurd x;
     complete = λ end at i l x y r w v e. absurd x;
   }

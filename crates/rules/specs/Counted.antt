@@ -19,6 +19,7 @@ use Rattle.rules.specs.Fills.{toFill, fill}
 use Rattle.rules.specs.Grammar as grammar
 use Rattle.rules.specs.Grammar.{Part, one, many, total}
 use Rattle.rules.specs.ElementLaws.{LowTag}
+use Rattle.rules.specs.FaultLaws.{ofReading}
 use Rattle.rules.specs.LookLaws.{avoids, repeats, under}
 use Rattle.rules.specs.RenderLaws.{weaken}
 use Rattle.rules.specs.GrammarLaws as exact
@@ -85,11 +86,11 @@ abbrev pub numberedBody : ℕ → (ℕ → Bool) → (ℕ → Layout) → ℕ �
 numberedBody kind which P x s t at a e = choose (which t) (λ _. counts at (also (rec kind (x ∷ t ∷ []) ∷ []) [] (P t .read s 0 e a))) (λ _. fails NotDue at)
 
 pub numbered-lawful : (most : ℕ) (f : Fault) (kind : ℕ) (which : ℕ → Bool) (P : ℕ → ℕ → Layout) (x : ℕ) → ((y t : ℕ) → P y t .Fine × T (under (P y t .kinds) (P 0 0 .kinds)) × T (isClose (P y t .tags .stop))) → ((t : ℕ) → which t ≡ true → LowTag t) →
-    T (leb (P 0 0 .kinds .credit) 0) → T (ltb kind 65536) → 1 ≤ most →
+    T (leb (P 0 0 .kinds .credit) 0) → T (ltb kind 65536) → 1 ≤ most → T (ofReading f) →
     LawfulCounted most (one (grammar.numbered kind which x (λ t. P x t .part))) (λ _. 1) (λ s k end at. choose (ltb k most) (λ _. element s (numberedBody kind which (P x) x s) end at) (λ _. fails f at))
     (from (λ k p. within (getD p 1 0) (P (getD p 0 0) (getD p 1 0) .render))) (look (kind ∷ []) false (P 0 0 .kinds .stop) 0) (exact.look which false (tags []))
-numbered-lawful most f kind which P x fine real paid z m = record {
-  exact = λ s b l k h. laws.numbered-law kind which x (λ t. P x t .part) real s b l most f (λ t. P x t .read s 0) (λ t. inside-law (P x t .lawful (fine x t .0) .exact s b l 0 (omega arith)) (closed (P x t .tags .stop) (fine x t .2))) m k h;
+numbered-lawful most f kind which P x fine real paid z m told = record {
+  exact = λ s b l k h. laws.numbered-law kind which x (λ t. P x t .part) real s b l most f told (λ t. P x t .read s 0) (λ t. inside-law (P x t .lawful (fine x t .0) .exact s b l 0 (omega arith)) (closed (P x t .tags .stop) (fine x t .2))) m k h;
   renders = laws.numbered-renders kind which x (λ t. P x t .part) real (λ y t. P y t .render) (P 0 0 .kinds) paid (λ t. weaken (P x t .kinds) (P 0 0 .kinds) (fine x t .1) (P x t .lawful (fine x t .0) .renders)) z;
   clean = from-b (λ k p a. within-b (getD p 1 0) (b-get p 1 a) (P (getD p 0 0) (getD p 1 0) .lawful (fine (getD p 0 0) (getD p 1 0) .0) .clean));
 }
@@ -103,6 +104,6 @@ numbered most f kind which P x = record {
   render = from (λ k p. within (getD p 1 0) (P (getD p 0 0) (getD p 1 0) .render));
   kinds = look (kind ∷ []) false (P 0 0 .kinds .stop) 0;
   tags = exact.look which false (tags []);
-  Fine = ((y t : ℕ) → P y t .Fine × T (under (P y t .kinds) (P 0 0 .kinds)) × T (isClose (P y t .tags .stop))) × ((t : ℕ) → which t ≡ true → LowTag t) × T (leb (P 0 0 .kinds .credit) 0) × T (ltb kind 65536) × (1 ≤ most);
-  lawful = λ z. numbered-lawful most f kind which P x (z .0) (z .1) (z .2) (z .3) (z .4);
+  Fine = ((y t : ℕ) → P y t .Fine × T (under (P y t .kinds) (P 0 0 .kinds)) × T (isClose (P y t .tags .stop))) × ((t : ℕ) → which t ≡ true → LowTag t) × T (leb (P 0 0 .kinds .credit) 0) × T (ltb kind 65536) × (1 ≤ most) × T (ofReading f);
+  lawful = λ z. numbered-lawful most f kind which P x (z .0) (z .1) (z .2) (z .3) (z .4) (z .5);
 }

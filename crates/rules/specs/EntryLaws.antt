@@ -8,7 +8,6 @@ use native.Mathlib.Omega.{arith}
 use lib.ListN.{length, getD, drop}
 use lib.Dec.{ltb, leb, eqb}
 use borrow.Author.Tests.{leb-true, le-leb, eqb-true, eq-eqb}
-use Rattle.elements.specs.declared.fault.Fault.the-variants.{BadSize, NotDue}
 use Rattle.elements.specs.Choice.{choose}
 use Rattle.elements.specs.ChoiceLaws.{both-true}
 use Rattle.elements.specs.Lists.{Bytes}
@@ -49,7 +48,7 @@ object-low t e = go (eqb t 0x30) refl e
 
 pub object-fine : (entry : ℕ) → object entry .Fine
 unfolding object insides
-object-fine entry = ((λ y t. (contents-fine y t, tt, tt)), object-low, tt, tt, omega arith)
+object-fine entry = ((λ y t. (contents-fine y t, tt, tt)), object-low, tt, tt, omega arith, tt)
 
 pub objects-fine : (t : ℕ) → listed (object t) .Fine
 unfolding object insides
@@ -63,7 +62,7 @@ module _ (s : List ℕ) (bytes : Bytes s) (small : length s ≤ 32768) where
 
   name-law : (entry : ℕ) → PlainBody s (namedPath s entry) (raw (λ c. rec 0x0110 (entry ∷ 0 ∷ c)) PathSize)
   unfolding namedPath
-  name-law entry = raw-law (λ c. rec 0x0110 (entry ∷ 0 ∷ c)) PathSize (λ n. leb 1 n && leb n 64) BadSize
+  name-law entry = raw-law (λ c. rec 0x0110 (entry ∷ 0 ∷ c)) PathSize (λ n. leb 1 n && leb n 64)
       (λ c u. let v = both-true (leb 1 (length c)) (leb (length c) 64) u in (leb-true 1 (length c) (v .0), leb-true (length c) 64 (v .1)))
       (λ c y. rw (le-leb 1 (length c) (y .0), le-leb (length c) 64 (y .1)) refl)
 
@@ -76,7 +75,7 @@ module _ (s : List ℕ) (bytes : Bytes s) (small : length s ≤ 32768) where
   inside-entry entry k h =
       or-law (naming entry) (inline entry) (inKnown entry) Any (λ t. eqb t 0x30)
       (narrow (λ y. Any y × (eqb (firstOf y) 0x30 ≡ true)) (λ y d. eqb-true (firstOf y) 0x30 (d .1)) (λ y d. (tt, eq-eqb (firstOf y) 0x30 d)) (tagged-law s bytes small 0x30 (low-tag 0x30 tt) (lift-body k 128 h (naming-law entry))))
-      (otherwise-law NotDue (λ y. Any y × (eqb (firstOf y) 0x30 ≡ false)) (λ t. eqb t 0xa0)
+      (otherwise-law (λ y. Any y × (eqb (firstOf y) 0x30 ≡ false)) (λ t. eqb t 0xa0)
       (narrow (λ y. (Any y × (eqb (firstOf y) 0x30 ≡ false)) × (eqb (firstOf y) 0xa0 ≡ true)) (λ y d. eqb-true (firstOf y) 0xa0 (d .1)) (λ y d. ((tt, rw d refl), eq-eqb (firstOf y) 0xa0 d))
       (tagged-law s bytes small 0xa0 (low-tag 0xa0 tt) (behind-body (rec 0x0110 (entry ∷ 1 ∷ [])) (objects-law entry k h)))))
 
@@ -107,7 +106,7 @@ module _ (s : List ℕ) (bytes : Bytes s) (small : length s ≤ 32768) where
   entry-body k h =
       or-law (choice knownTag (λ t. one (naming t or inline t))) (sealedOne (λ t. not (knownTag t) && contextTag t) 0x0110 (λ t. t ∷ 2 ∷ [])) inEntry Any knownTag
       (narrow (λ y. Any y × (knownTag (firstOf y) ≡ true)) (λ y d. d .1) (λ y d. (tt, d)) (choice-law s bytes small knownTag (λ t. one (naming t or inline t)) inKnown known-low (λ t _. known-law s bytes small t k h)))
-      (otherwise-law NotDue (λ y. Any y × (knownTag (firstOf y) ≡ false)) contextTag
+      (otherwise-law (λ y. Any y × (knownTag (firstOf y) ≡ false)) contextTag
       (narrow (λ y. (Any y × (knownTag (firstOf y) ≡ false)) × (contextTag (firstOf y) ≡ true)) (λ y d. rw (d .0 .1, d .1) refl) (λ y d. let v = unknown (knownTag (firstOf y)) (contextTag (firstOf y)) d in ((tt, v .0), v .1))
       (lift-item k 128 h (sealed-law s bytes small (λ t. not (knownTag t) && contextTag t) 0x0110 (λ t. t ∷ 2 ∷ [])))))
 

@@ -28,6 +28,7 @@ use Rattle.rules.specs.declared.table.Row.{Row}
 use Rattle.rules.specs.Reading.{rec, took}
 use Rattle.rules.specs.Parts.{Val, good, wrong, isDefault, inBounds, payload, judged, valued, rowBody, components}
 use Rattle.rules.specs.ValueLaws.{bytes-slice}
+use Rattle.rules.specs.FaultLaws.{ofReading, value-fault}
 use Rattle.rules.specs.TestLaws.{and-left, and-right}
 use Rattle.rules.specs.Grammar.{Worth, contentsOf, payOf, NotDefault, Within, Fine, field, fields}
 use Rattle.rules.specs.GrammarLaws.{tags, close, Look, look, Reads, refuses, Plain, PlainBody, clear, seqLook, seq, none-law, lowTag, low-tag, slotLook, whole-reads, whole-goes, component-law}
@@ -37,7 +38,7 @@ exact m size e h = by-pick (λ v. m ≡ v → size ≡ m) (ltb size most) (λ _ 
 
 -- what contents come to
 data Judged (f : Form) (r : Row) (c : List ℕ) : Val → Type 0 where
-  bad : {x : Fault} → Judged f r c (wrong x)
+  bad : {x : Fault} → T (ofReading x) → Judged f r c (wrong x)
   fine : {p : List ℕ} (v : Worth f) → Fine f r v → c ≡ contentsOf f v → p ≡ payOf f v → Judged f r c (good p)
 
 not-default : (d : Need) (m : ℕ) → isDefault d false m ≡ false → NotDefault d m
@@ -58,18 +59,18 @@ within-bounds : (r : Row) (m : ℕ) → Within r m → inBounds r false m ≡ tr
 within-bounds r m w = rw (le-leb (r .low) m (w .0), le-leb m (r .high) (w .1)) refl
 
 sized : (f : Form) (r : Row) (c : List ℕ) (n : Bool) → (Within r (length c) → Judged f r c (good c)) → Judged f r c (choose (inBounds r n (length c)) (λ _. good c) (λ _. wrong BadSize))
-sized f r c n g = by-choose (Judged f r c) (inBounds r n (length c)) (λ _ e. g (bounds r n (length c) e .1)) (λ _ _. bad)
+sized f r c n g = by-choose (Judged f r c) (inBounds r n (length c)) (λ _ e. g (bounds r n (length c) e .1)) (λ _ _. bad tt)
 
 judges : (f : Form) (r : Row) (c : List ℕ) (n : Bool) (m : ℕ) → r .high < most → Encodes f c n m → Judged f r c (payload f r c n m)
 unfolding payload
 judges form.Integer r c n m h w =
-    by-choose (Judged form.Integer r c) (isDefault (r .need) n m) (λ _ _. bad) (λ _ d.
+    by-choose (Judged form.Integer r c) (isDefault (r .need) n m) (λ _ _. bad tt) (λ _ d.
     by-choose (Judged form.Integer r c) (inBounds r n m) (λ _ b.
     let k = bounds r n m b in
     let z : w .size ≡ m = exact m (w .size) (w .told) (omega (arith, k .1 .1)) in
-    fine {p = le32 m} m (k .1, not-default (r .need) m (rw (k .0) at d)) (w .bytes ∙ rw (k .0, z) refl) refl) (λ _ _. bad))
+    fine {p = le32 m} m (k .1, not-default (r .need) m (rw (k .0) at d)) (w .bytes ∙ rw (k .0, z) refl) refl) (λ _ _. bad tt))
 judges form.Boolean r c n m h w =
-    by-choose (Judged form.Boolean r c) (isDefault (r .need) n m) (λ _ _. bad) (λ _ d. fine {p = m ∷ []} m (w .1, not-default (r .need) m (rw (w .0) at d)) (w .2) refl)
+    by-choose (Judged form.Boolean r c) (isDefault (r .need) n m) (λ _ _. bad tt) (λ _ d. fine {p = m ∷ []} m (w .1, not-default (r .need) m (rw (w .0) at d)) (w .2) refl)
 judges form.Bits r c n m h w = fine {p = le32 m} m (w .1) (w .2) refl
 judges form.Null r c n m h w = fine {p = c} tt tt (w .2) (w .2)
 judges form.Octets r c n m h w = sized form.Octets r c n (λ b. fine c b refl refl)
@@ -107,7 +108,7 @@ rowsClear (r ∷ rs) = (lowTag (r .tag) && ltb (r .high) most) && (clear (rowsLo
 
 module _ (s : List ℕ) (bytes : Bytes s) (small : length s ≤ 32768) where
   valued-reads : (r : Row) (at a e : ℕ) → at ≤ length s → a ≤ e → {v : Val} → Judged (r .form) r (slice a e s) v → Reads s (field r) (λ _. 0) 0 0 close e a (valued r at e v)
-  valued-reads r at a e o h bad = refuses at o
+  valued-reads r at a e o h (bad t) = refuses at (o, t)
   valued-reads r at a e o h (fine {p = p} v w q z) = whole-reads (field r) (rec (r .kind) p ∷ []) v w h q (rw z refl)
 
   row-sound : (r : Row) → r .high < most → (at a e : ℕ) → at ≤ a → a ≤ e → e ≤ length s → Reads s (field r) (λ _. 0) 0 0 close e a (rowBody s r at a e)
@@ -115,7 +116,7 @@ module _ (s : List ℕ) (bytes : Bytes s) (small : length s ≤ 32768) where
   row-sound r m at a e i h l = go (value (r .form) (slice a e s)) refl
     where
       go : (v : Value) → value (r .form) (slice a e s) ≡ v → Reads s (field r) (λ _. 0) 0 0 close e a (valued r at e (judged r (slice a e s) v))
-      go (Wrong f) q = refuses at (omega arith)
+      go (Wrong f) q = refuses at (omega arith, value-fault (r .form) (slice a e s) q)
       go (Of n x) q = valued-reads r at a e (omega arith) h (judges (r .form) r (slice a e s) n x m (value-sound (r .form) (slice a e s) (bytes-slice a e s bytes) q))
 
   row-complete : (r : Row) → r .high < most → (at a e : ℕ) → a ≤ e → (v : Worth (r .form)) → Fine (r .form) r v → slice a e s ≡ contentsOf (r .form) v → rowBody s r at a e ≡ took (rec (r .kind) (payOf (r .form) v) ∷ []) [] e

@@ -19,6 +19,7 @@ use Rattle.rules.specs.Reading.{rec, Res, took, fails, andThen, _then_, 
 use Rattle.rules.specs.Parts.{repeat, inside, surplus}
 use Rattle.rules.specs.Grammar.{Element, low, elementBytes, firstOf, IsElement, Part, _and_, many, rest, flat, AllMeet, total}
 use Rattle.rules.specs.ElementLaws.{is-end, head-complete}
+use Rattle.rules.specs.FaultLaws.{Told}
 use Rattle.rules.specs.GrammarLaws.{Starts, without, begun, tags, close, Look, look, Reads, refuses, takes, Goes, then-goes, whole-reads, whole-goes, Law, BodyLaw, Plain, seq-also, seq-reads, by-head}
 use Rattle.rules.specs.ItemLaws.{lift-law, ManyReads, stopped, went, many-sound, many-complete}
 use Rattle.rules.specs.Fills as files
@@ -27,7 +28,7 @@ use Rattle.rules.specs.Grammar as card
 
 -- fill
 data Filled (s : List ℕ) (b g at : ℕ) : Res → Type 0 where
-  no-fill : {f : Fault} (p : ℕ) → p ≤ length s → Filled s b g at (fails f p)
+  no-fill : {f : Fault} (p : ℕ) → Told s f p → Filled s b g at (fails f p)
   fills : (n : ℕ) → n ≡ at + g → slice at n s ≡ replicate g b → Filled s b g at (took [] [] n)
 
 module _ (s : List ℕ) where
@@ -38,7 +39,7 @@ module _ (s : List ℕ) where
   filled-is : (b g end at : ℕ) → at + g ≤ length s → Filled s b g at (filled s b g end at)
   unfolding filled
   filled-is b zero end at h = fills at (omega arith) (slice-empty at s)
-  filled-is b (suc g) end at h = by-choose (Filled s b (suc g) at) (eqb (getD s at 0) b) (λ _ e. fill-more b g at h (eqb-true (getD s at 0) b e) (filled-is b g end (at + 1) (omega arith))) (λ _ _. no-fill at (omega arith))
+  filled-is b (suc g) end at h = by-choose (Filled s b (suc g) at) (eqb (getD s at 0) b) (λ _ e. fill-more b g at h (eqb-true (getD s at 0) b e) (filled-is b g end (at + 1) (omega arith))) (λ _ _. no-fill at (omega arith, tt))
 
   filled-complete : (b g end at : ℕ) → at + g ≤ length s → slice at (at + g) s ≡ replicate g b → filled s b g end at ≡ took [] [] (at + g)
   unfolding filled
@@ -125,11 +126,11 @@ module _ {s : List ℕ} (small : length s ≤ 32768) (P : Part) (c : P .Of → �
 -- just one element, and then fill
 module _ (s : List ℕ) (bytes : Bytes s) (small : length s ≤ 32768) {P : Part} {p : Reader} {L : Look} (law : Plain s p P L) (solid : T (not (L .empty))) (free : L .stop ≡ tags []) (real : (t : ℕ) → L .first t ≡ true → (t ≡ 0 → ⊥) × (t ≡ 0xff → ⊥)) where
   alone-first : (end at : ℕ) → at ≤ end → end ≤ length s → Reads s P (λ _. 0) 0 0 (L .stop) end at (beforeFill s p end at)
-  alone-first end at h l = by-choose (Reads s P (λ _. 0) 0 0 (L .stop) end at) (toFill s end at) (λ _ _. law .sound end at h l) (λ _ _. refuses end l)
+  alone-first end at h l = by-choose (Reads s P (λ _. 0) 0 0 (L .stop) end at) (toFill s end at) (λ _ _. law .sound end at h l) (λ _ _. refuses end (l, tt))
 
   alone-fill : (kind end at : ℕ) → at ≤ end → end ≤ length s → Reads s (card.fill kind) (λ _. 0) 0 0 close end at (onlyFill s kind end at)
   alone-fill kind end at h l = by-choose (Reads s (card.fill kind) (λ _. 0) 0 0 close end at) (toFill s end at)
-      (λ _ _. by-head s bytes small (Reads s (card.fill kind) (λ _. 0) 0 0 close end at) (surplus at) end at h l (λ _ p o. refuses p o) (λ _ _ _ _. refuses at (omega arith))) (λ _ e. fill-sound s small kind end at h l e)
+      (λ _ _. by-head s bytes small (Reads s (card.fill kind) (λ _. 0) 0 0 close end at) (surplus at) end at h l (λ _ p o. refuses p o) (λ _ _ _ _. refuses at (omega arith, tt))) (λ _ e. fill-sound s small kind end at h l e)
 
   alone-goes : (end at : ℕ) {b : List ℕ} (w : List ℕ) → at ≤ end → end ≤ length s → {d : Bool} → T (not d) → Starts (L .first) d b → slice at end s ≡ b ++ w → toFill s end at ≡ true
   alone-goes end at w h l {d} z (without u e) q = absurd (T-not d z u)

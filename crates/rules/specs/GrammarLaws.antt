@@ -11,7 +11,7 @@ use lib.Seq.{slice, slice-empty, length-slice}
 use lib.Dec.{ltb, eqb, T}
 use borrow.Author.Tests.{ltb-true, ltb-false, lt-ltb, le-ltb, eqb-true, eq-eqb}
 use Rattle.elements.specs.declared.fault.Fault.{Fault}
-use Rattle.elements.specs.declared.fault.Fault.the-variants.{NotDue, Missing}
+use Rattle.elements.specs.declared.fault.Fault.the-variants.{BadSize, NotDue, Missing}
 use Rattle.elements.specs.declared.answer.Head.{Head}
 use Rattle.elements.specs.declared.answer.Head.the-variants.{At, No}
 use Rattle.elements.specs.declared.answer.Run.{Run}
@@ -30,6 +30,7 @@ use Rattle.rules.specs.Parts as parts
 use Rattle.rules.specs.Parts.{component, due, absent, surplus, whatever, inside, keep}
 use Rattle.rules.specs.Grammar.{Element, low, elementBytes, firstOf, IsElement, SealedRun, over, shallow, deep, Part, Item, empty, _and_, one, optional, slot, tagged, choice, raw, unlessEmpty, rest}
 use Rattle.rules.specs.ElementLaws.{is-end, Stands, Headed, head-sound, Placed, head-complete, run-sound, run-complete}
+use Rattle.rules.specs.FaultLaws.{Told, header-fault, sealed-fault}
 pub use Rattle.rules.specs.ElementLaws.{lowTag, LowTag, low-tag, low-is, low-first, low-bytes}
 
 -- what may not follow a part: elements with one of these tags, or anything
@@ -92,7 +93,7 @@ pub record Facts (s : List ℕ) (P : Part) (c : P .Of → ℕ) (k N : ℕ) (t : 
   pub closes : T (isClose t) → n ≡ end
 
 pub data Reads (s : List ℕ) (P : Part) (c : P .Of → ℕ) (k N : ℕ) (t : Stop) (end at : ℕ) : Res → Type 0 where
-  refuses : {f : Fault} (p : ℕ) → p ≤ length s → Reads s P c k N t end at (fails f p)
+  refuses : {f : Fault} (p : ℕ) → Told s f p → Reads s P c k N t end at (fails f p)
   takes : {rs : List Rec} {ms : List ℕ} {n : ℕ} → Facts s P c k N t end at rs ms n → Reads s P c k N t end at (took rs ms n)
 
 pub record Goes (s : List ℕ) (end at : ℕ) (rs : List Rec) (m : ℕ) (w : List ℕ) (r : Res) : Type 0 where
@@ -280,12 +281,12 @@ pub whole-goes : {s : List ℕ} {a e : ℕ} {rs : List Rec} {r : Res} → a ≤ 
 whole-goes {s} {a} {e} h q = record { ms = []; n = e; is = q; counted = refl; low = h; high = le-refl e; left = slice-empty e s }
 
 -- bytes in a record of their own, by a test of their length
-pub raw-law : {s : List ℕ} (r : List ℕ → Rec) (M : List ℕ → Type 0) (test : ℕ → Bool) (f : Fault) → ((c : List ℕ) → test (length c) ≡ true → M c) → ((c : List ℕ) → M c → test (length c) ≡ true) →
-    PlainBody s (λ at a e. choose (test (e - a)) (λ _. took (r (slice a e s) ∷ []) [] e) (λ _. fails f at)) (raw r M)
-raw-law {s} r M test f g k = record {
+pub raw-law : {s : List ℕ} (r : List ℕ → Rec) (M : List ℕ → Type 0) (test : ℕ → Bool) → ((c : List ℕ) → test (length c) ≡ true → M c) → ((c : List ℕ) → M c → test (length c) ≡ true) →
+    PlainBody s (λ at a e. choose (test (e - a)) (λ _. took (r (slice a e s) ∷ []) [] e) (λ _. fails BadSize at)) (raw r M)
+raw-law {s} r M test g k = record {
   sound = λ at a e i h l.
       by-choose (Reads s (raw r M) (λ _. 0) 0 0 close e a) (test (e - a))
-      (λ _ u. whole-reads (raw r M) (r (slice a e s) ∷ []) (slice a e s) (g (slice a e s) (rw (length-slice a e s l) u)) h refl refl) (λ _ _. refuses at (omega arith));
+      (λ _ u. whole-reads (raw r M) (r (slice a e s) ∷ []) (slice a e s) (g (slice a e s) (rw (length-slice a e s l) u)) h refl refl) (λ _ _. refuses at (omega arith, tt));
   complete = λ at a e _ h l x y _ q.
       let z : e - a ≡ length x = sym (length-slice a e s l) ∙ ap length q in
       whole-goes h (rw (z, k x y, q) refl);
@@ -293,11 +294,11 @@ raw-law {s} r M test f g k = record {
 
 module _ (s : List ℕ) (bytes : Bytes s) (small : length s ≤ 32768) where
   -- by the header at a place
-  pub by-head : (X : Res → Type 0) (g : Head → Res) (end at : ℕ) → at ≤ end → end ≤ length s → ((f : Fault) (p : ℕ) → p ≤ length s → X (g (No f p))) → ((t a e : ℕ) → Headed s at end t a e → X (g (At t a e))) → X (g (header s at end))
+  pub by-head : (X : Res → Type 0) (g : Head → Res) (end at : ℕ) → at ≤ end → end ≤ length s → ((f : Fault) (p : ℕ) → Told s f p → X (g (No f p))) → ((t a e : ℕ) → Headed s at end t a e → X (g (At t a e))) → X (g (header s at end))
   by-head X g end at h l x y = go (header s at end) refl
     where
       go : (w : Head) → header s at end ≡ w → X (g w)
-      go (No f p) q = x f p (omega (arith, header-refuses s at end h q .1))
+      go (No f p) q = x f p (omega (arith, header-refuses s at end h q .1), header-fault s at end q)
       go (At t a e) q = y t a e (head-sound s bytes at end l q)
 
   -- the rest of a sequence
@@ -308,7 +309,7 @@ module _ (s : List ℕ) (bytes : Bytes s) (small : length s ≤ 32768) where
       (λ _ u. takes {n = at} (record { it = []; meets = over refl; low = le-refl at; high = h; bytes = refl; book = refl; counted = refl; marks = tt; room = le-refl 0; closes = λ _. omega (arith, ltb-false at end u) }))
     where
       go : at < end → (r : Run) → sealedRun 16 s out at end ≡ r → Reads s (rest kind out) (λ _. 0) 0 0 close end at (keep (rec kind (slice at end s) ∷ []) end r)
-      go u (Refused f p) q = refuses p (omega (arith, sealed-refuses 16 s out at end h q .1))
+      go u (Refused f p) q = refuses p (omega (arith, sealed-refuses 16 s out at end h q .1), sealed-fault 16 s out at end q)
       go u (Ends i) q = whole-reads (rest kind out) (rec kind (slice at end s) ∷ []) (slice at end s) (run-sound s bytes 16 out at end h l q) h refl (rw (cons s at end u l) refl)
 
   rest-starts : (out c : List ℕ) {l : ℕ} → SealedRun l out c → Starts (λ t. not (among t out)) true c
@@ -336,7 +337,7 @@ module _ (s : List ℕ) (bytes : Bytes s) (small : length s ≤ 32768) where
   ended-reads l (refuses p o) = refuses p o
   ended-reads {P} {c} {k} {N} {t} {end} {at} l (takes {rs = rs} {ms = ms} {n = n} f) =
       by-choose (λ x. Reads s P c k N close end at (also rs ms x)) (ltb n end)
-      (λ _ _. by-head (λ x. Reads s P c k N close end at (also rs ms x)) (surplus n) end n (f .high) l (λ _ p o. refuses p o) (λ _ _ _ _. refuses n (omega (arith, f .high))))
+      (λ _ _. by-head (λ x. Reads s P c k N close end at (also rs ms x)) (surplus n) end n (f .high) l (λ _ p o. refuses p o) (λ _ _ _ _. refuses n (omega (arith, f .high), tt)))
       (λ _ u. takes {rs = rs ++ []} {ms = ms ++ []} {n = n} (record { it = f .it; meets = f .meets; low = f .low; high = f .high; bytes = f .bytes; book = append-nil rs ∙ f .book; counted = rw append-nil (f .counted); marks = rw append-nil (f .marks); room = f .room; closes = λ _. omega (arith, f .high, ltb-false n end u) }))
 
   ended-goes : {end at : ℕ} {rs : List Rec} {m : ℕ} {r : Res} → end ≤ length s → Goes s end at rs m [] r → Goes s end at rs m [] (andThen r (λ n. parts.ended s end n))
@@ -396,7 +397,7 @@ module _ (s : List ℕ) (bytes : Bytes s) (small : length s ≤ 32768) where
         by-head s bytes small (Reads s (one I) c k N (tags []) end at) (whatever b at) end at h l (λ _ p o. refuses p o) (λ t a e v.
         let st = v .stands in
         rw (v .tag) at (widen [] (omega (arith, st .after, st .order)) (st .inside) (f .sound (v .x) (v .element) tt end at a e st l))))
-        (λ _ _. refuses end l);
+        (λ _ _. refuses end (l, tt));
     starts = λ i y. begun (I .shape i) [] (f .is i y) (g i y) (sym (append-nil (elementBytes (I .shape i))));
     complete = λ end at h l i y r w _ e.
         let v = head-complete s small at end (I .shape i) w h l (f .is i y) e in
@@ -468,7 +469,7 @@ module _ {s : List ℕ} (I : Item) {end at : ℕ} where
   slot-there Optional t f = to-some f
   slot-there (Default d) t f = to-some f
 
-  slot-absent : (need : Need) (t : ℕ) (f : Fault) (p : ℕ) → p ≤ length s → at ≤ end → Reads s (slot need I) (λ _. 0) 0 0 (slotLook need t .stop) end at (absent need at (fails f p))
+  slot-absent : (need : Need) (t : ℕ) (f : Fault) (p : ℕ) → Told s f p → at ≤ end → Reads s (slot need I) (λ _. 0) 0 0 (slotLook need t .stop) end at (absent need at (fails f p))
   slot-absent Required t f p o h = refuses p o
   slot-absent Optional t f p o h = lacking h
   slot-absent (Default d) t f p o h = lacking h
@@ -488,8 +489,8 @@ module _ (s : List ℕ) (bytes : Bytes s) (small : length s ≤ 32768) {P : Part
       let st = v .stands in
       by-choose (Reads s (slot need it) (λ _. 0) 0 0 (slotLook need tag .stop) end at) (eqb t tag)
       (λ _ q. slot-there it need tag (widen s bytes small [] (omega (arith, st .after, st .order)) (st .inside) (law .sound (v .x) (v .element) (v .tag ∙ eqb-true t tag q) end at a e st l)))
-      (λ _ _. slot-absent it need tag NotDue at (omega arith) h)))
-      (λ _ _. slot-absent it need tag Missing end l h)
+      (λ _ _. slot-absent it need tag NotDue at (omega arith, tt) h)))
+      (λ _ _. slot-absent it need tag Missing end (l, tt) h)
 
   -- it is there
   there : (need : Need) (end at : ℕ) → at ≤ end → end ≤ length s → (x : P .Of) → P .Meets x → (w : List ℕ) → slice at end s ≡ elementBytes (low tag (P .bytes x)) ++ w → Goes s end at (P .book x) 0 w (component s tag need b end at)

@@ -11,6 +11,7 @@ use lib.Seq.{slice, length-slice}
 use lib.Dec.{T, T-not}
 use borrow.Author.Tests.{ltb-false, lt-ltb, le-ltb}
 use Rattle.elements.specs.declared.fault.Fault.{Fault}
+use Rattle.elements.specs.declared.fault.Fault.the-variants.{NotDue}
 use Rattle.elements.specs.declared.answer.Run.{Run}
 use Rattle.elements.specs.declared.answer.Run.the-variants.{Ends, Refused}
 use Rattle.elements.specs.Choice.{choose}
@@ -25,6 +26,7 @@ use Rattle.rules.specs.Rulings.{counts}
 use Rattle.rules.specs.Parts.{counted, repeat, toEnd, keep}
 use Rattle.rules.specs.Grammar.{Element, low, elementBytes, firstOf, IsElement, SealedIn, Part, Item, _or_, one, behind, many, sealedOne, flat, AllMeet, total}
 use Rattle.rules.specs.ElementLaws.{tag-is, is-end, Stands, run-sound, run-complete, head-complete}
+use Rattle.rules.specs.FaultLaws.{Told, sealed-fault}
 use Rattle.rules.specs.GrammarLaws.{marks-append, Stop, tags, close, Look, look, Starts, without, begun, Follows, Facts, Reads, refuses, takes, Goes, Law, BodyLaw, Plain, PlainBody, ItemLaw, whole-reads, whole-goes}
 
 -- the same with more room
@@ -76,9 +78,9 @@ module _ {s : List ℕ} (I J : Item) (C : (I .Of ⊎ J .Of) → ℕ) {k N : ℕ}
   }
 
 -- or a refusal
-pub otherwise-law : {s : List ℕ} {b : ℕ → Body} {I : Item} {c : I .Of → ℕ} {k N : ℕ} (x : Fault) (h : Element → Type 0) (test : ℕ → Bool) → ItemLaw s b I c k N (λ x. h x × (test (firstOf x) ≡ true)) → ItemLaw s (λ t at a e. choose (test t) (λ _. b t at a e) (λ _. fails x at)) I c k N h
-otherwise-law {s} {b} {I} {c} {k} {N} z h test f = record {
-  sound = λ x i m end at a e st l. by-choose (Reads s (one I) c k N close e at) (test (firstOf x)) (λ _ q. f .sound x i (m, q) end at a e st l) (λ _ _. refuses at (omega (arith, st .after, st .order, st .inside)));
+pub otherwise-law : {s : List ℕ} {b : ℕ → Body} {I : Item} {c : I .Of → ℕ} {k N : ℕ} (h : Element → Type 0) (test : ℕ → Bool) → ItemLaw s b I c k N (λ x. h x × (test (firstOf x) ≡ true)) → ItemLaw s (λ t at a e. choose (test t) (λ _. b t at a e) (λ _. fails NotDue at)) I c k N h
+otherwise-law {s} {b} {I} {c} {k} {N} h test f = record {
+  sound = λ x i m end at a e st l. by-choose (Reads s (one I) c k N close e at) (test (firstOf x)) (λ _ q. f .sound x i (m, q) end at a e st l) (λ _ _. refuses at (omega (arith, st .after, st .order, st .inside), tt));
   is = f .is;
   begins = λ i y. f .begins i y .0;
   complete = λ i y r end at a e st l. rw (f .begins i y .1) (f .complete i y r end at a e st l);
@@ -105,8 +107,8 @@ module _ (s : List ℕ) (bytes : Bytes s) (small : length s ≤ 32768) where
   inner-complete true c a e h l q r = run-complete s small 15 [] a e h l (rw q r)
   inner-complete false c a e h l q r = refl
 
-  inner-placed : (b : Bool) (a e : ℕ) {f : Fault} {p : ℕ} → a ≤ e → e ≤ length s → choose b (λ _. sealedRun 15 s [] a e) (λ _. Ends e) ≡ Refused f p → p ≤ length s
-  inner-placed true a e h l q = omega (arith, sealed-refuses 15 s [] a e h q .1)
+  inner-placed : (b : Bool) (a e : ℕ) {f : Fault} {p : ℕ} → a ≤ e → e ≤ length s → choose b (λ _. sealedRun 15 s [] a e) (λ _. Ends e) ≡ Refused f p → Told s f p
+  inner-placed true a e h l q = (omega (arith, sealed-refuses 15 s [] a e h q .1), sealed-fault 15 s [] a e q)
   inner-placed false a e h l q = let z : _≡_ {A = ℕ} 0 1 = cc in absurd (omega arith)
 
   pub sealed-law : (which : ℕ → Bool) (kind : ℕ) (front : ℕ → List ℕ) → ItemLaw s (λ t at a e. parts.sealed s kind (front t) t at a e) (sealedOne which kind front) (λ _. 0) 0 0 (λ x. which (firstOf x) ≡ true)
@@ -142,7 +144,7 @@ progress s b w at n end h i l e q =
     omega arith
 
 pub data ManyReads (s : List ℕ) (P : Part) (c : P .Of → ℕ) (k N : ℕ) (more : ℕ → ℕ → Bool) (end at : ℕ) : Res → Type 0 where
-  stopped : {f : Fault} (p : ℕ) → p ≤ length s → ManyReads s P c k N more end at (fails f p)
+  stopped : {f : Fault} (p : ℕ) → Told s f p → ManyReads s P c k N more end at (fails f p)
   went : {rs : List Rec} {ms : List ℕ} {n : ℕ} → Facts s (many P) (total c) k N (tags []) end at rs ms n → more end n ≡ false → ManyReads s P c k N more end at (took rs ms n)
 
 module _ {s : List ℕ} (P : Part) (c : P .Of → ℕ) (N : ℕ) (more : ℕ → ℕ → Bool) (f : ℕ → Reader) {L : Look} (item : (j : ℕ) → j ≤ N → Law s (f j) P c j N L) where
@@ -170,7 +172,7 @@ module _ {s : List ℕ} (P : Part) (c : P .Of → ℕ) (N : ℕ) (more : ℕ →
 
   pub many-sound : (g k end at : ℕ) → k ≤ N → at ≤ end → end ≤ length s → ManyReads s P c k N more end at (repeat more f g k end at)
   unfolding repeat
-  many-sound zero k end at i h l = by-choose (ManyReads s P c k N more end at) (more end at) (λ _ _. stopped end l) (λ _ e. many-end k end at i h e)
+  many-sound zero k end at i h l = by-choose (ManyReads s P c k N more end at) (more end at) (λ _ _. stopped end (l, tt)) (λ _ e. many-end k end at i h e)
   many-sound (suc g) k end at i h l =
       by-choose (ManyReads s P c k N more end at) (more end at) (λ _ _. many-counted (λ j n u v w. many-sound g (k + j) end n u w l) (item k i .sound end at h l)) (λ _ e. many-end k end at i h e)
 

@@ -28,6 +28,7 @@ use Rattle.rules.specs.Fills.{toFill, fill, beforeFill, onlyFill}
 use Rattle.rules.specs.Grammar as grammar
 use Rattle.rules.specs.Grammar.{firstOf, SealedRun, Part, Item, many, total}
 use Rattle.rules.specs.ElementLaws.{run-sound, run-complete}
+use Rattle.rules.specs.FaultLaws.{ofReading, sealed-fault}
 use Rattle.rules.specs.LookLaws.{avoids, bodily, repeats, under}
 use Rattle.rules.specs.RenderLaws.{Renders, and-renders, with-renders, weaken, within-renders, offered-renders, sealed-renders, kept-renders, sealed-all-renders, rest-renders, or-renders, many-renders, least-renders, rowsFit, fields-renders, fill-renders, behind-renders}
 use Rattle.rules.specs.GrammarLaws as exact
@@ -159,7 +160,7 @@ module _ {P : Part} {p : List ℕ → ℕ → Reader} {f : Renderer} {L : Look} 
 -- a check of what was read: it refuses at the sequence, or lets it pass
 pub data Judges (own : ℕ) (r : Res) : Res → Type 0 where
   passes : {w : Res} → w ≡ r → Judges own r w
-  refuses : (x : Fault) {w : Res} → w ≡ fails x own → Judges own r w
+  refuses : (x : Fault) → T (ofReading x) → {w : Res} → w ≡ fails x own → Judges own r w
 
 -- such a check says what is more to meet
 pub record Checks (P : Part) (f : ℕ → Res → Res) (more : P .Of → Type 0) : Type 0 where
@@ -174,7 +175,7 @@ module _ {P : Part} {p : List ℕ → ℕ → Reader} {f : Renderer} {L : Look} 
   with-reads {s} own o {t} {end} {at} (exact.takes {rs = rs} {ms = ms} {n = n} k) = go (c .judges own rs ms n) refl
     where
       go : {w : Res} → Judges own (took rs ms n) w → g own (took rs ms n) ≡ w → exact.Reads s (grammar.with P more) (λ _. 0) 0 0 t end at w
-      go (refuses y e) z = rw e (exact.refuses own o)
+      go (refuses y t e) z = rw e (exact.refuses own (o, t))
       go (passes e) z = rw e (exact.takes {rs = rs} {ms = ms} {n = n} (record {
         it = k .it;
         meets = (k .meets, c .sound own (k .it) (k .meets) ms n (rw (k .book) at (z ∙ e)));
@@ -219,7 +220,7 @@ module _ (kind : ℕ) where
   }
     where
       go : (end at : ℕ) → at ≤ end → end ≤ length s → (r : Run) → sealedRun 16 s [] at end ≡ r → exact.Reads s (grammar.raw (rec kind) (SealedRun 16 [])) (λ _. 0) 0 0 close end at (keep (rec kind (slice at end s) ∷ []) end r)
-      go end at h l (Refused f p) q = exact.refuses p (omega (arith, sealed-refuses 16 s [] at end h q .1))
+      go end at h l (Refused f p) q = exact.refuses p (omega (arith, sealed-refuses 16 s [] at end h q .1), sealed-fault 16 s [] at end q)
       go end at h l (Ends i) q = exact.whole-reads (grammar.raw (rec kind) (SealedRun 16 [])) (rec kind (slice at end s) ∷ []) (slice at end s) (run-sound s b 16 [] at end h l q) h refl refl
 
       begins : {l : ℕ} (c : List ℕ) → SealedRun l [] c → exact.Starts anyTag true c

@@ -6,6 +6,7 @@ pub mod Rendering
 pub mod Rulings
 pub mod Grammar
 pub mod ElementLaws
+pub mod FaultLaws
 pub mod TestLaws
 pub mod ValueLaws
 pub mod LookLaws

@@ -19,6 +19,7 @@ use Rattle.rules.specs.Looks.{Look, look}
 use Rattle.rules.specs.Rendering.{Renderer, within, from}
 use Rattle.rules.specs.Grammar.{low, firstOf, Part, one, behind, numbered}
 use Rattle.rules.specs.ElementLaws.{LowTag, wrap-is, element-long}
+use Rattle.rules.specs.FaultLaws.{ofReading}
 use Rattle.rules.specs.LookLaws.{pay-first, begins-one}
 use Rattle.rules.specs.RenderLaws.{Renders}
 use Rattle.rules.specs.GrammarLaws as exact
@@ -26,7 +27,7 @@ use Rattle.rules.specs.GrammarLaws.{tags, refuses, Law, BodyLaw, PlainBo
 use Rattle.rules.specs.ItemLaws.{narrow, otherwise-law, behind-body, counts-reads, counts-goes}
 
 module _ (kind : ℕ) (which : ℕ → Bool) (x : ℕ) (P : ℕ → Part) (real : (t : ℕ) → which t ≡ true → LowTag t) where
-  module _ (s : List ℕ) (bytes : Bytes s) (small : length s ≤ 32768) (N : ℕ) (f : Fault) (p : ℕ → Reader) (law : (t : ℕ) → PlainBody s (parts.inside (p t)) (P t)) where
+  module _ (s : List ℕ) (bytes : Bytes s) (small : length s ≤ 32768) (N : ℕ) (f : Fault) (told : T (ofReading f)) (p : ℕ → Reader) (law : (t : ℕ) → PlainBody s (parts.inside (p t)) (P t)) where
     abbrev body : ℕ → Body
     body t at a e = choose (which t) (λ _. counts at (also (rec kind (x ∷ t ∷ []) ∷ []) [] (p t e a))) (λ _. fails NotDue at)
 
@@ -34,7 +35,7 @@ module _ (kind : ℕ) (which : ℕ → Bool) (x : ℕ) (P : ℕ → Part) (real 
     counted-law k h g = record { sound = λ at a e j i l. counts-reads k N at (omega arith) h (g .sound at a e j i l); complete = λ at a e j i l x y r q. counts-goes at (g .complete at a e j i l x y (le-refl 0) q) }
 
     body-law : (k : ℕ) → k + 1 ≤ N → ItemLaw s body (numbered kind which x P) (λ _. 1) k N Any
-    body-law k h = otherwise-law NotDue Any which
+    body-law k h = otherwise-law Any which
         (narrow (λ y. Any y × (which (firstOf y) ≡ true)) (λ y d. d .1) (λ y d. (tt, d))
         (choice-law s bytes small which (λ t. behind (P t) (λ _. rec kind (x ∷ t ∷ []))) (λ t x. 1) real (λ t _. counted-law k h (behind-body (rec kind (x ∷ t ∷ [])) (law t)))))
 
@@ -47,7 +48,7 @@ module _ (kind : ℕ) (which : ℕ → Bool) (x : ℕ) (P : ℕ → Part) (real 
         go : (b : Bool) → ltb k N ≡ b → Law s (λ end at. choose b (λ _. parts.element s body end at) (λ _. fails f at)) (one (numbered kind which x P)) (λ _. 1) k N (exact.look which false (tags []))
         go true e = element-law s bytes small which (body-law k (omega (arith, ltb-true k N e))) first
         go false e = record {
-          sound = λ end at i l. refuses at (omega arith);
+          sound = λ end at i l. refuses at (omega arith, told);
           starts = element-law s bytes small which (body-law 0 m) first .starts;
           complete = λ end at i l x y r w v q. absurd (omega (arith, ltb-false k N e));
         }

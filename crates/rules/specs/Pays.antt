@@ -71,6 +71,7 @@ times k (x ∷ xs) = pick (eqb x k) 1 0 + times k xs
 pub record Few (k : ℕ) (ks : List ℕ) (rs : List Rec) : Type 0 where
   pub most : length (pays k rs) ≤ times k ks
 
+-- no record
 none-few : (k : ℕ) (ks : List ℕ) → Few k ks []
 unfolding pays
 none-few k ks = record { most = omega arith }
