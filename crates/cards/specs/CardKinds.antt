@@ -1,24 +1,24 @@
 -- Where in a card's book its paths, its own identifiers and its conditions' identifiers stand.
 use Prim.Native.Nat.{ℕ, zero, suc, _≤_}
 use mathlib.Core.List.{List, [], _∷_, _++_, append-nil, append-assoc, List·Memᴰ}
-use mathlib.Core.Bool.{Bool, true, false, not}
+use mathlib.Core.Bool.{false, not}
 use mathlib.Core.Logic.{_↔_, inl, inr}
 use mathlib.Core.Option.{Option, none, some}
-use mathlib.Core.Path.{_≡_, refl, sym, ap, _∙_}
+use mathlib.Core.Path.{_≡_, refl, sym, _∙_}
 use native.Mathlib.Omega.{arith}
 use lib.ListN.{length}
 use lib.Dec.{eqb, T}
-use Rattle.elements.specs.Choice.{choose}
+use borrow.Author.Tests.{le-leb}
 use Rattle.elements.specs.Sealed.{among}
 use Rattle.rules.specs.declared.table.Class.{Class}
 use Rattle.rules.specs.declared.table.Class.the-variants.{Keys, Certificates, Containers, Authentications}
 use Rattle.rules.specs.declared.table.ObjectType.{ObjectType}
 use Rattle.rules.specs.declared.table.Sort.the-variants.{Always, Identifier, Not, And, Or, Other}
 use Rattle.rules.specs.declared.table.Row.{Row}
-use Rattle.rules.specs.Reading.{Rec, rec}
+use Rattle.rules.specs.Reading.{rec}
 use Rattle.rules.specs.Tables.{classOf, typeOf, kindOf, certificateIdRow, ownIdRow, keyRows, certificateRows, authenticationRows, commonRows, ruleRows}
 use Rattle.rules.specs.Parts.{keptOut}
-use Rattle.rules.specs.Grammar.{field, fields, optional, tagged, fill, flat}
+use Rattle.rules.specs.Grammar.{elementBytes, firstOf, field, fields, optional, tagged, fill, flat}
 use Rattle.rules.specs.Kinds.{kindsOf, fields-only}
 use Rattle.rules.specs.Conditions.{condition}
 use Rattle.rules.specs.Layout.{rest as restOf, maybe}
@@ -26,7 +26,7 @@ use Rattle.rules.specs.Layouts as layouts
 use Rattle.rules.specs.Entries as entries
 use Rattle.rules.specs.Files as files
 use Rattle.rules.specs.Files.{Name}
-use Rattle.rules.specs.Pays.{pays, pays-append, pays-flat, pays-none, lacks, times, Few, one-few, and-few, rest-few, fields-few, in-pays}
+use Rattle.rules.specs.Pays.{pays, pays-append, pays-flat, pays-none, names-append, names-none, lacks, times, Few, one-few, and-few, rest-few, fields-few, in-pays}
 use Rattle.cards.specs.Card as card
 use Rattle.cards.specs.Card.{Object, recordsOf, identifiersIn}
 
@@ -224,49 +224,28 @@ no-path : (o : Object) → pays 0x0110 (recordsOf o) ≡ []
 unfolding layouts.common layouts.rules layouts.rule layouts.class
 no-path (t, x) = object-pays 0x0110 path-elsewhere (λ _. []) (λ _ _. []) (λ y. lacks 0x0110 layouts.common tt y) (λ c. elim c [ Keys ↦ (λ y. lacks 0x0110 (layouts.class Keys) tt y) | Certificates ↦ (λ y. lacks 0x0110 (layouts.class Certificates) tt y) | Authentications ↦ (λ y. lacks 0x0110 (layouts.class Authentications) tt y) | Containers ↦ (λ y. lacks 0x0110 (layouts.class Containers) tt y) ]) t x
 
--- names are told by the payloads of 0110
-name-more : (p : List ℕ) (ns : List Name) → files.nameOf p ns ≡ files.nameOf p [] ++ ns
-name-more [] ns = refl
-name-more (t ∷ []) ns = refl
-name-more (t ∷ f ∷ p) ns = go (eqb f 0)
-  where
-    go : (b : Bool) → choose b (λ _. record { tag = t; path = p } ∷ ns) (λ _. ns) ≡ choose b (λ _. record { tag = t; path = p } ∷ []) (λ _. []) ++ ns
-    go true = refl
-    go false = refl
-
-names-pays : (rs : List Rec) → files.namesOf rs ≡ flat (λ p. files.nameOf p []) (pays 0x0110 rs)
-unfolding files.namesOf pays
-names-pays [] = refl
-names-pays (r ∷ rs) = go (eqb (r .kind) 0x0110) (names-pays rs)
-  where
-    go : (b : Bool) → files.namesOf rs ≡ flat (λ p. files.nameOf p []) (pays 0x0110 rs) → choose b (λ _. files.nameOf (r .pay) (files.namesOf rs)) (λ _. files.namesOf rs) ≡ flat (λ p. files.nameOf p []) (choose b (λ _. r .pay ∷ pays 0x0110 rs) (λ _. pays 0x0110 rs))
-    go true h = name-more (r .pay) (files.namesOf rs) ∙ rw h refl
-    go false h = h
-
 -- objects name none
 pub objects-names : (t : ℕ) (os : List (entries.object t .part .Of)) → files.namesOf (flat (entries.object t .part .book) os) ≡ []
-objects-names t os = names-pays (flat (entries.object t .part .book) os) ∙ rw (pays-flat 0x0110 (entries.object t .part .book) (λ _. []) (λ o. no-path (t, o)) os) (go os)
+objects-names t os = names-none (flat (entries.object t .part .book) os) (pays-flat 0x0110 (entries.object t .part .book) (λ _. []) (λ o. no-path (t, o)) os ∙ go os)
   where
-    go : {A : Type 0} (xs : List A) → flat {B = Name} (λ p. files.nameOf p []) (flat {B = List ℕ} (λ _. []) xs) ≡ []
+    go : {A : Type 0} (xs : List A) → flat {B = List ℕ} (λ _. []) xs ≡ []
     go [] = refl
     go (x ∷ xs) = go xs
 
-entry-names : (x : entries.item .Of) → flat (λ p. files.nameOf p []) (pays 0x0110 (entries.item .book x)) ≡ card.nameIn x
-unfolding pays
-entry-names (inl (t, inl path)) = refl
-entry-names (inl (t, inr objects)) = sym (names-pays (flat (entries.object t .part .book) objects)) ∙ objects-names t objects
-entry-names (inr unknown) = refl
+entry-names : (x : entries.item .Of) → files.namesOf (entries.item .book x) ≡ card.nameIn x
+unfolding files.namesOf
+entry-names (inl (t, inl path)) = rw (le-leb 2 (length (t ∷ 0 ∷ path)) (omega arith)) refl
+entry-names (inl (t, inr objects)) = objects-names t objects
+entry-names (inr x) = rw (le-leb 2 (length (firstOf x ∷ 2 ∷ elementBytes x)) (omega arith)) refl
 
-entries-names : (xs : List (entries.item .Of)) → flat (λ p. files.nameOf p []) (pays 0x0110 (flat (entries.item .book) xs)) ≡ flat card.nameIn xs
-unfolding pays
+entries-names : (xs : List (entries.item .Of)) → files.namesOf (flat (entries.item .book) xs) ≡ flat card.nameIn xs
+unfolding files.namesOf
 entries-names [] = refl
-entries-names (x ∷ xs) =
-    let f : List ℕ → List Name = λ p. files.nameOf p [] in
-    ap (flat f) (pays-append 0x0110 (entries.item .book x) (flat (entries.item .book) xs)) ∙ flat-append f (pays 0x0110 (entries.item .book x)) (pays 0x0110 (flat (entries.item .book) xs)) ∙ rw (entry-names x, entries-names xs) refl
+entries-names (x ∷ xs) = names-append (entries.item .book x) (flat (entries.item .book) xs) ∙ rw (entry-names x, entries-names xs) refl
 
 -- the paths that EF.OD's records name are those of the card
 pub od-names : (o : card.od .Of) → files.namesOf (card.od .book o) ≡ card.namesOf o
 od-names (xs, filling) =
     let d = flat (entries.item .book) xs in
     let e = fill 0x0107 .book filling in
-    names-pays (d ++ e) ∙ rw (pays-append 0x0110 d e, fill-pays 0x0110 0x0107 refl filling, append-nil (pays 0x0110 d)) (entries-names xs)
+    names-append d e ∙ rw (entries-names xs, names-none e (fill-pays 0x0110 0x0107 refl filling)) (append-nil (flat card.nameIn xs))

@@ -14,8 +14,7 @@ use Rattle.elements.specs.ChoiceLaws.{by-choose}
 use Rattle.elements.specs.Lists.{Bytes}
 use Rattle.elements.specs.Record.{recordBytes}
 use Rattle.rules.specs.Reading.{Rec, Res}
-use Rattle.rules.specs.Files as files
-use Rattle.rules.specs.Files.{Name, File, Framed, Files, Check, Answer, accepted, refused, paths, firstAgain, entryPlace, frame, onFramed, onFiles, onRes, onCheck, readFiles, readParts, readDump}
+use Rattle.rules.specs.Files.{Name, File, FrameRead, Files, Check, Answer, accepted, refused, paths, firstAgain, entryPlace, frame, onFramed, onFiles, onRes, onCheck, readFiles, readParts, readDump}
 use Rattle.rules.specs.Book.{encode}
 use Rattle.rules.specs.Meaning.{AcceptedBook}
 use Rattle.rules.specs.Grammar.{Part, flat}
@@ -39,7 +38,7 @@ data CardReads (s : List ℕ) : Answer → Type 0 where
 module _ {s : List ℕ} where
   -- a record's frame
   on-frame : {kind at : ℕ} {k : File → Answer} → Bytes s → at ≤ length s → ((f : File) → Frame s kind [] at f → CardReads s (k f)) → CardReads s (onFramed (frame s kind at) k)
-  on-frame {kind} {at} {k} bytes h g = by-frame s bytes (λ (r : Framed). CardReads s (onFramed r k)) kind at (λ _ t. declines at (h, t)) g
+  on-frame {kind} {at} {k} bytes h g = by-frame s bytes (λ (r : FrameRead). CardReads s (onFramed r k)) kind at (λ _ t. declines at (h, t)) g
 
   -- the frames of the files
   on-chain : {at : ℕ} {r : Files} {k : List File → Answer} → ChainReads s at r → ((fs : List File) → Chain s at fs → CardReads s (k fs)) → CardReads s (onFiles r k)

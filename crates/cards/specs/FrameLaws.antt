@@ -13,7 +13,7 @@ use Rattle.elements.specs.declared.fault.Fault.the-variants.{RecordMissing, Rec
 use Rattle.elements.specs.ChoiceLaws.{by-choose}
 use Rattle.elements.specs.Lists.{Bytes, Begins, begins, join, cons}
 use Rattle.elements.specs.Record.{recordBytes}
-use Rattle.rules.specs.Files.{Name, File, Framed, framed, broken, Files, files, brokenAt, Check, fine, wrongAt, equal, two, frameOf, fileIn, frame, namedFile, namedFrame, consFile, moreFiles, frames, pathOf, follow}
+use Rattle.rules.specs.Files.{Name, File, FrameRead, framed, broken, Files, files, brokenAt, Check, fine, wrongAt, equal, two, frameOf, fileIn, frame, namedFile, namedFrame, consFile, moreFiles, frames, pathOf, follow}
 use Rattle.rules.specs.ElementLaws.{parted}
 use Rattle.rules.specs.FaultLaws.{ofReading, Told}
 use Rattle.rules.specs.ValueLaws.{two-bytes}
@@ -57,7 +57,7 @@ module _ (s : List ℕ) (bytes : Bytes s) where
       four s at (at + 2 + two s at) (omega arith) l ∙ rw (n, b .0, b .1, c .0, c .1) refl
 
   -- by the record at a place
-  by-record : (P : Framed → Type 0) (kind at : ℕ) (inner : ℕ → ℕ → Framed) → ((x : Fault) → T (ofReading x) → P (broken x at)) →
+  by-record : (P : FrameRead → Type 0) (kind at : ℕ) (inner : ℕ → ℕ → FrameRead) → ((x : Fault) → T (ofReading x) → P (broken x at)) →
       (2 ≤ two s at → at + 2 + two s at ≤ length s → two s (at + 2) ≡ kind → P (inner (at + 4) (at + 2 + two s at))) → P (frameOf s kind inner at)
   unfolding frameOf
   by-record P kind at inner bad f =
@@ -69,7 +69,7 @@ module _ (s : List ℕ) (bytes : Bytes s) where
       (λ _ _. bad RecordKind tt)))))
 
   -- by the file in it, behind n bytes
-  by-file : (P : Framed → Type 0) (kind at n : ℕ) → 2 ≤ two s at → at + 2 + two s at ≤ length s → two s (at + 2) ≡ kind → ((x : Fault) → T (ofReading x) → P (broken x at)) →
+  by-file : (P : FrameRead → Type 0) (kind at n : ℕ) → 2 ≤ two s at → at + 2 + two s at ≤ length s → two s (at + 2) ≡ kind → ((x : Fault) → T (ofReading x) → P (broken x at)) →
       (let f : File = record { place = at; named = at + 4 + 1; start = at + 4 + n; stop = at + 2 + two s at } in Frame s kind (slice (at + 4) (at + 4 + n) s) at f → P (framed f)) → P (fileIn s at n (at + 4) (at + 2 + two s at))
   unfolding fileIn
   by-file P kind at n g l k bad good =
@@ -85,7 +85,7 @@ module _ (s : List ℕ) (bytes : Bytes s) where
       })))
 
   -- by CIAInfo's record and EF.OD's
-  pub by-frame : (P : Framed → Type 0) (kind at : ℕ) → ((x : Fault) → T (ofReading x) → P (broken x at)) → ((f : File) → Frame s kind [] at f → P (framed f)) → P (frame s kind at)
+  pub by-frame : (P : FrameRead → Type 0) (kind at : ℕ) → ((x : Fault) → T (ofReading x) → P (broken x at)) → ((f : File) → Frame s kind [] at f → P (framed f)) → P (frame s kind at)
   unfolding frame
   by-frame P kind at bad good = by-record P kind at (λ a e. fileIn s at 0 a e) bad (λ g l k.
       by-file P kind at 0 g l k bad (λ w.
@@ -94,7 +94,7 @@ module _ (s : List ℕ) (bytes : Bytes s) where
       good (record { place = at; named = at + 4 + 1; start = at + 4 + 0; stop = at + 2 + two s at }) (rw y at w)))
 
   -- by a directory file's record
-  by-named : (P : Framed → Type 0) (at : ℕ) → ((x : Fault) → T (ofReading x) → P (broken x at)) → ((f : File) → NamedFile s at f → P (framed f)) → P (namedFrame s at)
+  by-named : (P : FrameRead → Type 0) (at : ℕ) → ((x : Fault) → T (ofReading x) → P (broken x at)) → ((f : File) → NamedFile s at f → P (framed f)) → P (namedFrame s at)
   unfolding namedFrame namedFile
   by-named P at bad good = by-record P 3 at (namedFile s at) bad (λ g l q.
       let a = at + 4 in
@@ -120,7 +120,7 @@ pub record Held (s : List ℕ) (kind at : ℕ) (front b w : List ℕ) : Type 0 w
   pub ahead : slice (at + 4) (at + 4 + length front) s ≡ front
   pub this : slice (at + 4 + length front) (at + 4 + length (front ++ b)) s ≡ b
   pub left : slice (at + 4 + length (front ++ b)) (length s) s ≡ w
-  pub opens : (inner : ℕ → ℕ → Framed) → frameOf s kind inner at ≡ inner (at + 4) (at + 4 + length (front ++ b))
+  pub opens : (inner : ℕ → ℕ → FrameRead) → frameOf s kind inner at ≡ inner (at + 4) (at + 4 + length (front ++ b))
   pub file : fileIn s at (length front) (at + 4) (at + 4 + length (front ++ b)) ≡ framed (record { place = at; named = at + 4 + 1; start = at + 4 + length front; stop = at + 4 + length (front ++ b) })
 
 module _ (s : List ℕ) where
@@ -201,7 +201,7 @@ module _ (s : List ℕ) (bytes : Bytes s) where
   chain-sound zero at h = by-choose (ChainReads s at) (ltb at (length s)) (λ _ _. no-chain at (h, tt)) (λ _ e. chain (over (omega (arith, ltb-false at (length s) e))))
   chain-sound (suc g) at h =
       by-choose (ChainReads s at) (ltb at (length s))
-      (λ _ _. by-named s bytes (λ (r : Framed). ChainReads s at (moreFiles s r (λ n. frames s g n))) at (λ _ t. no-chain at (h, t)) (λ f w. link-up w (chain-sound g (f .stop) (w .stands .inside))))
+      (λ _ _. by-named s bytes (λ (r : FrameRead). ChainReads s at (moreFiles s r (λ n. frames s g n))) at (λ _ t. no-chain at (h, t)) (λ f w. link-up w (chain-sound g (f .stop) (w .stands .inside))))
       (λ _ e. chain (over (omega (arith, ltb-false at (length s) e))))
 
   -- one that its entry names before the others

@@ -2,8 +2,7 @@
 use crate::show;
 use elements::Fault;
 use layouts::Outcome;
-ghost use Prim.Native.Nat.{_≤_, _<_};
-ghost use lib.ListN.{length};
+ghost use Prim.Native.Nat.{_<_};
 
 // What byte i of the lent slice is before: (7 i + 3) mod 251, so that no constant passes for it.
 fn before(i: usize) -> u8 {

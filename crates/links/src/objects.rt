@@ -2,7 +2,6 @@
 use crate::sorts::is_closing;
 use rules::record_end;
 use rules::word;
-ghost use mathlib.Core.Path.{_≡_};
 ghost use Rattle.links.specs.Links.{firstOf};
 ghost use Rattle.links.specs.Finding.{Within, heldAt, NextObject, FoundAt};
 

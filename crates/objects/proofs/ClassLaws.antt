@@ -1,9 +1,8 @@
 -- A class's sequence with its rest, data containers, and the subclass.
 use Prim.Native.Nat.{ℕ, _+_, _-_, _*_, _≤_}
 use mathlib.Core.Path.{_≡_, refl, sym, _∙_}
-use mathlib.Core.List.{List, [], _∷_}
+use mathlib.Core.List.{List, []}
 use native.Mathlib.Omega.{arith}
-use lib.ListN.{length}
 use lib.Seq.{slice}
 use Rattle.elements.specs.declared.fault.Fault.{Fault}
 use Rattle.elements.specs.declared.answer.Run.{Run}
@@ -13,7 +12,6 @@ use Rattle.elements.specs.Record.{recordBytes}
 use Rattle.elements.specs.Sealed.{sealedRun}
 use Rattle.objects.specs.declared.part.Part.{Part}
 use Rattle.objects.specs.declared.part.Part.the-variants.{Took, Fails}
-use Rattle.rules.specs.declared.table.Row.{Row}
 use Rattle.rules.specs.declared.table.Class.{Class}
 use Rattle.rules.specs.declared.table.Class.the-variants.{Keys, Certificates, Containers, Authentications}
 use Rattle.rules.specs.Reading.{_then_}
@@ -21,7 +19,7 @@ use Rattle.rules.specs.Parts.{components, rest, element, sealed, ended, keptOut
 use Rattle.rules.specs.Tables.{keyRows, certificateRows, authenticationRows}
 use Rattle.rules.specs.Objects.{classBody, subclass}
 use Rattle.objects.specs.Did.{Did, fell, Stays, Inside}
-use Rattle.objects.specs.DidLaws.{did-one, did-as, did-fails, did-ends}
+use Rattle.objects.specs.DidLaws.{did-one, did-fails, did-ends}
 use Rattle.rules.specs.Layouts as layouts
 
 module _ (s : List ℕ) (at x e : ℕ) {r : Run} (k : r ≡ sealedRun 16 s [] x e) where

@@ -6,7 +6,6 @@ use crate::part::stands;
 use crate::row::components;
 use rules::Need;
 use rules::Sequence;
-ghost use mathlib.Core.List.{[]};
 ghost use Prim.Native.Nat.{_-_};
 ghost use Rattle.rules.specs.declared.table.Need.the-variants.{Required, Optional};
 ghost use Rattle.rules.specs.Parts.{component, repeat, toEnd};

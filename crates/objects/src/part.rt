@@ -1,7 +1,6 @@
 use elements::Fault;
 use elements::Head;
 use rules::Need;
-ghost use mathlib.Core.Path.{_≡_};
 ghost use Prim.Native.Nat.{_≤_};
 ghost use lib.ListN.{length};
 ghost use Rattle.objects.specs.Did.{Lacks, Dues};

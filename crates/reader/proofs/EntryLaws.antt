@@ -37,13 +37,13 @@ use Rattle.rules.specs.Files.{toFill, filled, fill, objects, namedPath, entryIn
 use Rattle.rules.specs.Book.{encode}
 use Rattle.rules.specs.LookLaws.{Laid, laid-append}
 use Rattle.rules.specs.BookLaws.{book-size}
+use Rattle.rules.specs.Pays.{names-append}
 use Rattle.objects.specs.Did.{Did, did, fell, Forward, Stays}
 use Rattle.reader.specs.Filing.{DidObjects, didObjects, fellObjects, objectsOf, DidEntries, ForwardMany, moreOf}
 use Rattle.reader.specs.Scan.{Lies, Holds, Whole, AgainTold, keyAt}
 use Rattle.objects.specs.DidLaws.{encode-append, encode-one, by-header, element-fails, did-one, did-high, did-small, did-same}
 use Rattle.objects.specs.RepeatLaws.{Going, going-none, going-step, going-stop, going-break}
 use Rattle.reader.proofs.LiesLaws.{First, first, first-whole, put-lies, put-lie}
-use Rattle.reader.proofs.ScanLaws.{names-append}
 use Rattle.reader.proofs.NameLaws.{silent-took, fill-silent, Entry, entry-told, Naming, naming-start, naming-next, naming-bears, names-bear}
 
 -- a part has no marks

@@ -14,7 +14,7 @@ use Rattle.reader.specs.declared.frame.Span.the-variants.{From, No}
 use Rattle.reader.specs.declared.frame.Framed.{Framed}
 use Rattle.reader.specs.declared.frame.Framed.the-variants as file
 use Rattle.reader.specs.declared.frame.Chain.the-variants.{Sound, Unsound}
-use Rattle.rules.specs.Files.{File, Framed as FrameOf, framed, broken, Files, files, brokenAt, two, frameOf, fileIn, frame, namedFile, namedFrame, consFile, moreFiles, frames}
+use Rattle.rules.specs.Files.{File, FrameRead, framed, broken, Files, files, brokenAt, two, frameOf, fileIn, frame, namedFile, namedFrame, consFile, moreFiles, frames}
 use Rattle.reader.specs.Frame.{Spanned, framedAs, Inner, Path, FramesTold}
 
 no-from : {x : Fault} {p a e : ℕ} → No x p ≡ From a e → ⊥
@@ -72,7 +72,7 @@ module _ (s : List ℕ) (at n start stop : ℕ) where
     file-whole l = rw (le-ltb stop (start + n) h, le-ltb 16383 (stop - (start + n)) l) refl
 
 -- what is made of a record's inside
-module _ (at : ℕ) (P : FrameOf → Type 0) (bad : (x : Fault) → P (broken x at)) where
+module _ (at : ℕ) (P : FrameRead → Type 0) (bad : (x : Fault) → P (broken x at)) where
   file-by : (s : List ℕ) (n a e : ℕ) → (a + n ≤ e → P (framed (record { place = at; named = a + 1; start = a + n; stop = e }))) → P (fileIn s at n a e)
   unfolding fileIn
   file-by s n a e f =
@@ -185,7 +185,7 @@ module _ (s : List ℕ) where
   unfolding frames
   frames-turn g at h = rw (lt-ltb at (length s) h) refl
 
-  frames-some : (g k at : ℕ) (w : FrameOf) → g ≡ suc k → at < length s → namedFrame s at ≡ w → frames s g at ≡ moreFiles s w (λ n. frames s k n)
+  frames-some : (g k at : ℕ) (w : FrameRead) → g ≡ suc k → at < length s → namedFrame s at ≡ w → frames s g at ≡ moreFiles s w (λ n. frames s k n)
   frames-some g k at w e h q = rw e (rw q at (frames-turn k at h))
 
   frames-over : (g at : ℕ) → length s ≤ at → frames s g at ≡ files []
@@ -201,7 +201,7 @@ module _ (s : List ℕ) where
   cons-split f (files gs) fs e = (gs, cc, refl)
   cons-split f (brokenAt x p) fs e = let y : _≡_ {A = ℕ} 0 1 = cc in absurd (omega arith)
 
-  more-split : (w : FrameOf) (k : ℕ → Files) (fs : List File) → moreFiles s w k ≡ files fs → (f : File) × (rest : List File) × (fs ≡ f ∷ rest) × (w ≡ framed f) × (k (f .stop) ≡ files rest)
+  more-split : (w : FrameRead) (k : ℕ → Files) (fs : List File) → moreFiles s w k ≡ files fs → (f : File) × (rest : List File) × (fs ≡ f ∷ rest) × (w ≡ framed f) × (k (f .stop) ≡ files rest)
   more-split (framed f) k fs e = let c = cons-split f (k (f .stop)) fs e in (f, c .0, c .1, refl, c .2)
   more-split (broken x p) k fs e = let y : _≡_ {A = ℕ} 0 1 = cc in absurd (omega arith)
 

@@ -9,7 +9,7 @@ use native.Mathlib.Nat.{le-of-lt}
 use lib.ListN.{length, getD, length-append}
 use lib.Seq.{slice, length-slice}
 use lib.Dec.{ltb, eqb}
-use borrow.Author.Tests.{lt-ltb, eq-eqb, ne-eqb}
+use borrow.Author.Tests.{lt-ltb, le-leb, eq-eqb, ne-eqb}
 use Rattle.elements.specs.Choice.{pick, choose}
 use Rattle.elements.specs.ChoiceLaws.{by-choose}
 use Rattle.elements.specs.Header.{header}
@@ -22,6 +22,7 @@ use Rattle.rules.specs.Parts.{element}
 use Rattle.rules.specs.Grammar.{low, elementBytes, firstOf, flat}
 use Rattle.rules.specs.ElementLaws.{LowTag, low-tag, low-is, low-first, Stands, head-complete}
 use Rattle.rules.specs.LookLaws.{Laid, size}
+use Rattle.rules.specs.Pays.{names-append}
 use Rattle.rules.specs.ReadLaws.{facts-kept, reads-facts}
 use Rattle.rules.specs.Counted.{listed}
 use Rattle.rules.specs.Entries.{object, item, knownTag, contextTag}
@@ -32,7 +33,7 @@ use Rattle.reader.specs.Filing.{PathsTold}
 use Rattle.reader.specs.declared.scan.Key.the-variants.{Path}
 use Rattle.reader.specs.Scan.{bears, keyAt}
 use Rattle.reader.proofs.LiesLaws.{First}
-use Rattle.reader.proofs.ScanLaws.{nameAt, names-first, names-append, keys-first, keys-append}
+use Rattle.reader.proofs.ScanLaws.{nameAt, names-first, keys-first, keys-append}
 
 -- a part that names no path
 pub data Silent : Res → Type 0 where
@@ -95,7 +96,7 @@ module _ (s : List ℕ) (small : length s ≤ 32768) where
         let z : firstOf (low t c) ≡ t = low-first t c (known-low t (m .0)) in
         let q : header s at end ≡ At t a e = st .is ∙ rw z refl in
         let p = tag-at a e 0x30 (elementBytes (low 0x04 path)) (low-tag 0x30 tt) (st .order) (omega (arith, st .inside)) (st .within) in
-        record { tag = t; from = a; head = q ∙ rw w refl; first = rec 0x0110 (t ∷ 0 ∷ path); rest = []; are = refl; quiet = refl; names = rw (q, m .0, p) refl; bound = b; laid = v }
+        record { tag = t; from = a; head = q ∙ rw w refl; first = rec 0x0110 (t ∷ 0 ∷ path); rest = []; are = refl; quiet = refl; names = rw (q, m .0, p, le-leb 2 (length (t ∷ 0 ∷ path)) (omega arith)) refl; bound = b; laid = v }
     by-item (inl (t, inr objects)) m {a} {e} st w b v =
         let d = listed (object t) .part .bytes objects in
         let c = elementBytes (low 0xa0 d) in
@@ -104,7 +105,7 @@ module _ (s : List ℕ) (small : length s ≤ 32768) where
         let p = tag-at a e 0xa0 d (low-tag 0xa0 tt) (st .order) (omega (arith, st .inside)) (st .within) in
         record { tag = t; from = a; head = q ∙ rw w refl; first = rec 0x0110 (t ∷ 1 ∷ []); rest = flat (object t .part .book) objects; are = refl; quiet = objects-names t objects; names = rw (q, m .0, p) refl; bound = b; laid = v }
     by-item (inr x) m {a} {e} st w b v =
-        record { tag = firstOf x; from = a; head = st .is ∙ rw w refl; first = rec 0x0110 (firstOf x ∷ 2 ∷ elementBytes x); rest = []; are = refl; quiet = refl; names = rw (st .is, unknown (knownTag (firstOf x)) (contextTag (firstOf x)) (m .2) .0) refl; bound = b; laid = v }
+        record { tag = firstOf x; from = a; head = st .is ∙ rw w refl; first = rec 0x0110 (firstOf x ∷ 2 ∷ elementBytes x); rest = []; are = refl; quiet = refl; names = rw (st .is, unknown (knownTag (firstOf x)) (contextTag (firstOf x)) (m .2) .0, le-leb 2 (length (firstOf x ∷ 2 ∷ elementBytes x)) (omega arith)) refl; bound = b; laid = v }
 
 module _ (s : List ℕ) (bytes : Bytes s) (small : length s ≤ 32768) where
   pub entry-told : (k end at : ℕ) {bs : List Rec} {ms : List ℕ} {n : ℕ} → k ≤ 128 → at < end → end ≤ length s → element s (entryBody s k) end at ≡ took bs ms n → Entry s end at bs n

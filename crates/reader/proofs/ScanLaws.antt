@@ -7,11 +7,11 @@ use native.Mathlib.Numerals.{add-one}
 use native.Mathlib.Omega.{arith}
 use lib.ListN.{length, getD, take, drop, set, length-set, List·getD-eq-default}
 use lib.Seq.{slice, slice-empty, getD-drop, drop-drop, getD-set-same, getD-set-other, take-suc-set}
-use lib.Dec.{leb, eqb}
-use borrow.Author.Tests.{eq-eqb, ne-eqb, le-leb, lt-leb, eqb-true, eqb-false, leb-true}
+use lib.Dec.{eqb}
+use borrow.Author.Tests.{eq-eqb, ne-eqb, eqb-true, eqb-false}
 use Rattle.elements.specs.Choice.{pick, choose}
-use Rattle.elements.specs.ChoiceLaws.{by-choose, both-true}
-use Rattle.elements.specs.Lists.{cons, begins, join}
+use Rattle.elements.specs.ChoiceLaws.{both-true}
+use Rattle.elements.specs.Lists.{cons, join}
 use Rattle.elements.specs.declared.fault.Fault.the-variants.{AuthIdTwice}
 use Rattle.reader.specs.declared.scan.Clash.{Clash}
 use Rattle.reader.specs.declared.scan.Clash.the-variants.{At, None}
@@ -19,70 +19,32 @@ use Rattle.reader.specs.declared.scan.Key.{Key}
 use Rattle.reader.specs.declared.scan.Key.the-variants.{Path, Own}
 use Rattle.rules.specs.Reading.{Rec}
 use Rattle.rules.specs.Tables.{ownIdRow}
-use Rattle.rules.specs.Files.{Name, nameOf, namesOf, paths, equal, met, two, wrongAt, repeated}
+use Rattle.rules.specs.Files.{Name, namesPath, namesOf, paths, equal, met, two, wrongAt, repeated}
 use Rattle.rules.specs.Book.{encode}
+use Rattle.rules.specs.BookLaws.{byte-some, name-room, name-path}
 use Rattle.rules.specs.LookLaws.{Laid}
-use Rattle.rules.specs.Pays.{pays, idsOf, pays-append}
+use Rattle.rules.specs.Pays.{pays, idsOf, pays-append, names-append}
 use Rattle.reader.specs.Scan.{Lies, Holds, AgainTold, clashOf, IdsTold, NextName, last, found, NameTold, Whole, behind, bears, skip, keyAt, keysOf, Spans, MetTold, RepeatTold, placedKeys, Places, Index, Indexed, Noted}
 use Rattle.objects.specs.DidLaws.{encode-append}
 use Rattle.reader.proofs.LiesLaws.{First, Some, some, some-lie, none-lie, lie-same}
 
--- what `bears` says, test by test
-module _ (b : List ℕ) (j : ℕ) {n : ℕ} (k : n ≡ two b (j + 2)) where
-  pub names-other : (n ≡ 0x0110 → ⊥) → false ≡ bears b Path j
-  unfolding bears
-  names-other h = rw (ne-eqb (two b (j + 2)) 0x0110 (λ e. h (k ∙ e))) refl
+-- what `bears` says of each key
+pub bears-path : (b : List ℕ) (j : ℕ) {x : Key} {n : ℕ} {r : Bool} → x ≡ Path → n ≡ behind b j → r ≡ namesPath (two b (j + 2)) (slice (j + 4) n b) → r ≡ bears b x j
+unfolding bears
+bears-path b j e k h = rw (e, ← k) h
 
-  module _ {m : ℕ} (e : n ≡ 0x0110) (l : m ≡ two b j) where
-    pub names-short : m < 4 → false ≡ bears b Path j
-    unfolding bears
-    names-short h = rw (eq-eqb (two b (j + 2)) 0x0110 (sym k ∙ e), lt-leb 4 (two b j) (omega arith)) refl
-
-    pub names-by : 4 ≤ m → eqb (getD b (j + 5) 0) 0 ≡ bears b Path j
-    unfolding bears
-    names-by h = rw (eq-eqb (two b (j + 2)) 0x0110 (sym k ∙ e), le-leb 4 (two b j) (omega arith)) refl
-
-  pub bears-own : {x : Key} → x ≡ Own → eqb n (ownIdRow .kind) ≡ bears b x j
-  unfolding bears
-  bears-own e = rw (e, k) refl
-
-pub bears-path : (b : List ℕ) (j : ℕ) {x : Key} {r : Bool} → x ≡ Path → r ≡ bears b Path j → r ≡ bears b x j
-bears-path b j e h = rw e h
+pub bears-own : (b : List ℕ) (j : ℕ) {x : Key} {n : ℕ} → x ≡ Own → n ≡ two b (j + 2) → eqb n (ownIdRow .kind) ≡ bears b x j
+unfolding bears
+bears-own b j e k = rw (e, k) refl
 
 -- the name that the record at j gives
 abbrev pub nameAt : List ℕ → ℕ → Name
-nameAt b j = record { tag = getD b (j + 4) 0; path = slice (j + 6) (behind b j) b }
+nameAt b j = record { tag = getD (slice (j + 4) (behind b j) b) 0 0; path = slice (j + 6) (behind b j) b }
 
 module _ {b : List ℕ} {j end : ℕ} {r : Rec} {rest : List Rec} (f : First b j end r rest) where
   pub names-first : (ws : List Rec) → namesOf (r ∷ ws) ≡ choose (bears b Path j) (λ _. nameAt b j ∷ namesOf ws) (λ _. namesOf ws)
   unfolding namesOf bears
-  names-first ws = go (r .pay) (f .long) (f .pay)
-    where
-      none : (t : Bool) (ms ns : List Name) → choose t (λ _. ns) (λ _. ns) ≡ choose (t && false) (λ _. ms) (λ _. ns)
-      none true ms ns = refl
-      none false ms ns = refl
-
-      one : (t u : Bool) (ms ns : List Name) → choose t (λ _. choose u (λ _. ms) (λ _. ns)) (λ _. ns) ≡ choose (t && u) (λ _. ms) (λ _. ns)
-      one true u ms ns = refl
-      one false u ms ns = refl
-
-      go : (p : List ℕ) → two b j ≡ length p + 2 → slice (j + 4) (behind b j) b ≡ p →
-          choose (eqb (r .kind) 0x0110) (λ _. nameOf p (namesOf ws)) (λ _. namesOf ws) ≡ choose (eqb (two b (j + 2)) 0x0110 && (leb 4 (two b j) && eqb (getD b (j + 5) 0) 0)) (λ _. nameAt b j ∷ namesOf ws) (λ _. namesOf ws)
-      go [] e q = rw (f .kind, lt-leb 4 (two b j) (omega arith)) (none (eqb (r .kind) 0x0110) (nameAt b j ∷ namesOf ws) (namesOf ws))
-      go (t ∷ []) e q = rw (f .kind, lt-leb 4 (two b j) (omega arith)) (none (eqb (r .kind) 0x0110) (nameAt b j ∷ namesOf ws) (namesOf ws))
-      go (t ∷ c ∷ p) e q =
-          let x = begins b (j + 4) (behind b j) (omega (arith, f .within, f .after .high)) q in
-          let y = begins b (j + 4 + 1) (behind b j) (omega (arith, f .within, f .after .high)) (x .rest) in
-          let i : j + 4 + 1 ≡ j + 5 = omega arith in
-          let k : j + 4 + 1 + 1 ≡ j + 6 = omega arith in
-          let second : getD b (j + 5) 0 ≡ c = rw i at (y .first) in
-          let path : slice (j + 6) (behind b j) b ≡ p = rw k at (y .rest) in
-          rw (f .kind, le-leb 4 (two b j) (omega arith), second, path, x .first) (one (eqb (r .kind) 0x0110) (eqb c 0) (record { tag = t; path = p } ∷ namesOf ws) (namesOf ws))
-
--- a record that names a path has room for it
-four : (b : List ℕ) (j : ℕ) → bears b Path j ≡ true → 4 ≤ two b j
-unfolding bears
-four b j e = leb-true 4 (two b j) (both-true (leb 4 (two b j)) (eqb (getD b (j + 5) 0) 0) (both-true (eqb (two b (j + 2)) 0x0110) (leb 4 (two b j) && eqb (getD b (j + 5) 0) 0) e .1) .0)
+  names-first ws = rw (f .kind, ← name-path b j (behind b j), f .pay) refl
 
 -- the loop of `next_name`: the names of what is left are all
 pub record Unnamed (b : List ℕ) (i end j : ℕ) : Type 0 where
@@ -108,10 +70,15 @@ module _ {b : List ℕ} {i end j : ℕ} (w : Unnamed b i end j) where
         go (some {rest = rest} f) s = record { all = w .all; lies = w .lies; left = rest; after = rw k (f .after); same = rw (names-first f rest, sym e ∙ q) at s }
 
     pub unnamed-found : t ≡ true → NameTold b i end j
+    unfolding bears
     unnamed-found q = record { is = λ rs l. go (some-lie (w .after) h) (ap namesOf (lie-same l (w .lies)) ∙ w .same) }
       where
         go : {rs ws : List Rec} → Some b j end ws → namesOf rs ≡ namesOf ws → NextName b end rs j
-        go (some {rest = rest} f) s = found (nameAt b j) rest (rw (names-first f rest, sym e ∙ q) at s) h refl refl (omega (arith, four b j (sym e ∙ q))) (f .after)
+        go (some {rest = rest} f) s =
+            let m = name-room (two b (j + 2)) b j (behind b j) (omega (arith, f .within, f .after .high)) (sym e ∙ q) in
+            let i : j + 4 + 0 ≡ j + 4 = omega arith in
+            let tag : getD b (j + 4) 0 ≡ nameAt b j .tag = rw i at (byte-some b (j + 4) (behind b j) 0 (omega (arith, m))) in
+            found (nameAt b j) rest (rw (names-first f rest, sym e ∙ q) at s) h (sym tag) refl (omega (arith, m)) (f .after)
 
 -- the k-th of too few
 pub mark-none : (l : List ℕ) (k : ℕ) → length l ≤ k → 0 ≡ getD l k 0
@@ -120,10 +87,11 @@ mark-none l k h = sym (List·getD-eq-default l 0 h)
 -- the key of a record that bears one
 module _ (b : List ℕ) (x : Key) (j : ℕ) {t : Bool} (e : t ≡ bears b x j) where
   pub key-spans : {q n : ℕ} → t ≡ true → Whole b j → q ≡ skip x → n ≡ behind b j → Spans b (j + q) n
+  unfolding bears
   key-spans {q} {n} u w k m = record { low = go x (sym e ∙ u) k; high = omega (arith, w .fits) }
     where
       go : (y : Key) → bears b y j ≡ true → q ≡ skip y → j + q ≤ n
-      go Path v k = omega (arith, four b j v)
+      go Path v k = omega (arith, name-room (two b (j + 2)) b j (behind b j) (w .fits) v)
       go Own v k = omega (arith, w .least)
 
   pub key-same : (p n q m : ℕ) {r : Bool} → t ≡ true → q ≡ skip x → m ≡ behind b j → r ≡ equal (slice p n b) (slice (j + q) m b) → r ≡ (bears b x j && equal (slice p n b) (keyAt b x j))
@@ -207,20 +175,6 @@ module _ {b : List ℕ} {i j place again : ℕ} where
     again-none q = record { is = λ rs l. rw (eq-eqb again 0 h, sym (w .is rs l) ∙ q) refl }
 
 -- the keys of records one behind the other
-name-append : (p : List ℕ) (ns ms : List Name) → nameOf p (ns ++ ms) ≡ nameOf p ns ++ ms
-name-append [] ns ms = refl
-name-append (t ∷ []) ns ms = refl
-name-append (t ∷ f ∷ p) ns ms = by-choose (λ (l : List Name). choose (eqb f 0) (λ _. record { tag = t; path = p } ∷ (ns ++ ms)) (λ _. ns ++ ms) ≡ l ++ ms) (eqb f 0) (λ _ e. rw e refl) (λ _ e. rw e refl)
-
-pub names-append : (rs ws : List Rec) → namesOf (rs ++ ws) ≡ namesOf rs ++ namesOf ws
-unfolding namesOf
-names-append [] ws = refl
-names-append (r ∷ rs) ws = rw (names-append rs ws) (go (eqb (r .kind) 0x0110))
-  where
-    go : (t : Bool) → choose t (λ _. nameOf (r .pay) (namesOf rs ++ namesOf ws)) (λ _. namesOf rs ++ namesOf ws) ≡ choose t (λ _. nameOf (r .pay) (namesOf rs)) (λ _. namesOf rs) ++ namesOf ws
-    go true = name-append (r .pay) (namesOf rs) (namesOf ws)
-    go false = refl
-
 pub keys-append : (x : Key) (rs ws : List Rec) → keysOf x (rs ++ ws) ≡ keysOf x rs ++ keysOf x ws
 keys-append Path rs ws = ap paths (names-append rs ws) ∙ map-append (λ (n : Name). n .path) (namesOf rs) (namesOf ws)
 keys-append Own rs ws = pays-append (ownIdRow .kind) rs ws

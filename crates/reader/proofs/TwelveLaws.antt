@@ -16,7 +16,7 @@ use Rattle.reader.specs.declared.frame.Framed.the-variants as file
 use Rattle.reader.specs.declared.twelve.Followed.{Followed}
 use Rattle.reader.specs.declared.twelve.Followed.the-variants.{Fine, Wrong}
 use Rattle.rules.specs.Reading.{Rec}
-use Rattle.rules.specs.Files.{File, Framed as FrameOf, framed, broken, files, two, frameOf, fileIn, namedFile, namedFrame, frames, Name, namesOf, equal, pathOf, Check, wrongAt, follow}
+use Rattle.rules.specs.Files.{File, FrameRead, framed, broken, files, two, frameOf, fileIn, namedFile, namedFrame, frames, Name, namesOf, equal, pathOf, Check, wrongAt, follow}
 use Rattle.reader.specs.Scan.{Lies, Holds, NextName, last, found, NameTold}
 use Rattle.reader.specs.Frame.{framedAs, Inner, Path}
 use Rattle.reader.specs.Twelve.{Sound, followedAs, FollowTold}
@@ -31,7 +31,7 @@ module _ (s : List ℕ) (at : ℕ) (f : File) where
   there : {g : File} → g .place ≡ at → framed g ≡ framed f → f .place ≡ at
   there {g} e z = let y : g ≡ f = cc in ap (λ (h : File). h .place) (sym y) ∙ e
 
-  abbrev There : FrameOf → Type 0
+  abbrev There : FrameRead → Type 0
   There v = v ≡ framed f → f .place ≡ at
 
   file-there : (n a e : ℕ) → There (fileIn s at n a e)

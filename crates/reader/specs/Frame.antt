@@ -10,20 +10,20 @@ use Rattle.reader.specs.declared.frame.Framed.{Framed}
 use Rattle.reader.specs.declared.frame.Framed.the-variants as file
 use Rattle.reader.specs.declared.frame.Chain.{Chain}
 use Rattle.reader.specs.declared.frame.Chain.the-variants.{Sound, Unsound}
-use Rattle.rules.specs.Files.{Framed as FrameOf, framed, broken, files, brokenAt, File, frameOf, frames}
+use Rattle.rules.specs.Files.{FrameRead, framed, broken, files, brokenAt, File, frameOf, frames}
 
 -- what is made of a record's inside
-abbrev pub bySpan : (ℕ → ℕ → FrameOf) → Span → FrameOf
+abbrev pub bySpan : (ℕ → ℕ → FrameRead) → Span → FrameRead
 bySpan inner (From a e) = inner a e
 bySpan inner (No f p) = broken f p
 
 -- the record of a kind at `at`, whatever is made of its inside
 pub record Spanned (s : List ℕ) (kind at : ℕ) (r : Span) : Type 0 where
-  pub is : (inner : ℕ → ℕ → FrameOf) → frameOf s kind inner at ≡ bySpan inner r
+  pub is : (inner : ℕ → ℕ → FrameRead) → frameOf s kind inner at ≡ bySpan inner r
   pub inside : (a e : ℕ) → r ≡ From a e → (a ≡ at + 4) × (a ≤ e) × (e ≤ length s)
 
 -- a file as the definitions have it: its record is at `at`
-abbrev pub framedAs : ℕ → Framed → FrameOf
+abbrev pub framedAs : ℕ → Framed → FrameRead
 framedAs at (file.File n a e) = framed (record { place = at; named = n; start = a; stop = e })
 framedAs at (file.Broken f p) = broken f p
 

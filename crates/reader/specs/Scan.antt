@@ -5,7 +5,7 @@ use mathlib.Core.List.{List, [], _∷_, _++_, map}
 use mathlib.Core.Bool.{Bool, true, _&&_}
 use lib.ListN.{length, getD, take}
 use lib.Seq.{slice}
-use lib.Dec.{leb, eqb}
+use lib.Dec.{eqb}
 use Rattle.elements.specs.Choice.{pick}
 use Rattle.elements.specs.declared.fault.Fault.the-variants.{AuthIdTwice}
 use Rattle.reader.specs.declared.scan.Clash.{Clash}
@@ -14,7 +14,7 @@ use Rattle.reader.specs.declared.scan.Key.{Key}
 use Rattle.reader.specs.declared.scan.Key.the-variants.{Path, Own}
 use Rattle.rules.specs.Reading.{Rec}
 use Rattle.rules.specs.Tables.{ownIdRow}
-use Rattle.rules.specs.Files.{Name, namesOf, paths, met, two, Check, fine, wrongAt, repeated}
+use Rattle.rules.specs.Files.{Name, namesPath, namesOf, paths, met, two, Check, fine, wrongAt, repeated}
 use Rattle.rules.specs.Book.{encode}
 use Rattle.rules.specs.LookLaws.{Laid}
 use Rattle.rules.specs.Pays.{idsOf}
@@ -60,7 +60,7 @@ pub record Whole (b : List ℕ) (j : ℕ) : Type 0 where
 
 -- the record at j bears a key: an entry that names a path, an own authId
 unfoldable pub bears : List ℕ → Key → ℕ → Bool
-bears b Path j = eqb (two b (j + 2)) 0x0110 && (leb 4 (two b j) && eqb (getD b (j + 5) 0) 0)
+bears b Path j = namesPath (two b (j + 2)) (slice (j + 4) (behind b j) b)
 bears b Own j = eqb (two b (j + 2)) (ownIdRow .kind)
 
 -- what stands before its key in a record, from the record's start on

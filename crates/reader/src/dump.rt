@@ -14,7 +14,6 @@ use elements::Fault;
 use objects::Many;
 use objects::Part;
 use rules::Outcome;
-ghost use mathlib.Core.Path.{_≡_};
 ghost use mathlib.Core.List.{[]};
 ghost use Prim.Native.Nat.{_+_, _*_, _≤_};
 ghost use lib.ListN.{length};

@@ -1,11 +1,12 @@
+use rules::is_name;
 use rules::same_bytes;
 use rules::word;
 ghost use mathlib.Core.Path.{_≡_};
 ghost use mathlib.Core.Bool.{_&&_};
-ghost use Prim.Native.Nat.{_+_, _*_, _≤_};
+ghost use Prim.Native.Nat.{_+_, _≤_};
 ghost use lib.ListN.{length, getD};
 ghost use lib.Seq.{slice};
-ghost use Rattle.rules.specs.Files.{two, equal, met};
+ghost use Rattle.rules.specs.Files.{equal, met};
 ghost use Rattle.reader.specs.Scan.{Holds, AgainTold, IdsTold, NameTold, Whole, Spans, behind, bears, keyAt, skip, MetTold, RepeatTold, Places, placedKeys, Indexed, Noted};
 
 // Whether an own authId is repeated: the place of the object that does.
@@ -28,27 +29,13 @@ fn after(b: &[u8], j: usize) -> usize
     j + 2 + word(b, j)
 }
 
-// Whether the record at j names a path: an entry's tag, 00, the path.
-fn names(b: &[u8], j: usize) -> bool
-    requires { ⌜ Whole (now b) j ⌝ }
-    ensures { λ r. ⌜ r ≡ bears (now (b .entry)) Key.Path j ⌝ }
-{
-    if word(b, j + 2) != 0x0110 {
-        return false;
-    }
-    if word(b, j) < 4 {
-        return false;
-    }
-    b[j + 5] == 0
-}
-
 // Whether the record at j bears a key.
 fn is_bearing(b: &[u8], x: Key, j: usize) -> bool
     requires { ⌜ Whole (now b) j ⌝ }
     ensures { λ r. ⌜ r ≡ bears (now (b .entry)) x j ⌝ }
 {
     match x {
-        Key::Path => names(b, j),
+        Key::Path => is_name(b, j, after(b, j)),
         Key::Own => word(b, j + 2) == 0x0150,
     }
 }
@@ -107,7 +94,7 @@ pub fn next_name(b: &[u8], i: usize, end: usize) -> usize
 {
     let mut j = i;
     while j < end {
-        if names(b, j) {
+        if is_bearing(b, Key::Path, j) {
             return j;
         }
         j = after(b, j);

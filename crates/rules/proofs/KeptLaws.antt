@@ -13,7 +13,7 @@ use Rattle.rules.specs.declared.table.Row.{Row}
 use Rattle.rules.specs.declared.table.Sequence.{Sequence}
 use Rattle.rules.specs.declared.table.Sequence.the-variants.{Info, Common, Rule, Key, CertificateAttributes, Authentication, PrivateKeyAttributes, PasswordAttributes, Path}
 use Rattle.rules.specs.Parts.{unlessRequired, keptOut}
-use Rattle.rules.specs.Tables.{rowsOf, noRow, beside, keptOf}
+use Rattle.rules.specs.Tables.{rowsOf, noRow, beside}
 
 -- a table has at most eight rows
 pub few : (q : Sequence) → length (rowsOf q) ≤ 8

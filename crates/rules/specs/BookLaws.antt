@@ -1,15 +1,17 @@
 -- The records of any bytes.
 use Prim.Native.Nat.{ℕ, zero, suc, _+_, _-_, _*_, _<_, _≤_}
 use mathlib.Core.Path.{_≡_, refl, sym, ap, _∙_}
-use mathlib.Core.Bool.{false}
+use mathlib.Core.Bool.{true, false, _&&_}
 use mathlib.Core.List.{List, [], _∷_}
 use native.Mathlib.Omega.{arith}
 use lib.ListN.{length, getD, take, drop, length-append, length-drop, drop-of-length-le, List·getD-eq-default}
 use lib.Seq.{slice, take-all, drop-cons, drop-drop, drop-length, getD-drop, getD-take, length-slice}
-use lib.Dec.{eqb}
+use lib.Dec.{leb, eqb}
+use borrow.Author.Tests.{eq-eqb, ne-eqb, le-leb, lt-leb, leb-true}
+use Rattle.elements.specs.ChoiceLaws.{both-true}
 use Rattle.elements.specs.Lists.{lent}
 use Rattle.rules.specs.Reading.{Rec, rec}
-use Rattle.rules.specs.Files.{two}
+use Rattle.rules.specs.Files.{two, namesPath}
 use Rattle.elements.specs.Record.{recordBytes}
 use Rattle.rules.specs.LookLaws.{size}
 use Rattle.rules.specs.Book.{encode, recordsOf, records, recordsFrom, Ends, nextIs}
@@ -103,6 +105,29 @@ byte-none b p e k h l = sym (List·getD-eq-default (slice p e b) 0 (omega (arith
 
 pub byte-some : (b : List ℕ) (p e k : ℕ) → k < e - p → getD b (p + k) 0 ≡ getD (slice p e b) k 0
 byte-some b p e k l = sym (getD-drop p (take e b) k 0 ∙ getD-take e b (p + k) 0 (omega arith))
+
+-- whether the record at j, which ends at e, names a path
+module _ (b : List ℕ) (j e : ℕ) {w : ℕ} (q : w ≡ two b (j + 2)) where
+  pub name-kind : (w ≡ 0x0110 → ⊥) → false ≡ namesPath (two b (j + 2)) (slice (j + 4) e b)
+  name-kind z = rw (← q, ne-eqb w 0x0110 z) refl
+
+  module _ (z : w ≡ 0x0110) (h : e ≤ length b) where
+    pub name-short : e - (j + 4) < 2 → false ≡ namesPath (two b (j + 2)) (slice (j + 4) e b)
+    name-short l = rw (← q, eq-eqb w 0x0110 z, length-slice (j + 4) e b h, lt-leb 2 (e - (j + 4)) l) refl
+
+    pub name-byte : {x : ℕ} → 2 ≤ e - (j + 4) → x ≡ getD (slice (j + 4) e b) 1 0 → eqb x 0 ≡ namesPath (two b (j + 2)) (slice (j + 4) e b)
+    name-byte l t = rw (← q, ← t, eq-eqb w 0x0110 z, length-slice (j + 4) e b h, le-leb 2 (e - (j + 4)) l) refl
+
+-- one that does has room for the path
+pub name-room : (k : ℕ) (b : List ℕ) (j e : ℕ) → e ≤ length b → namesPath k (slice (j + 4) e b) ≡ true → j + 6 ≤ e
+name-room k b j e h z =
+    let p = slice (j + 4) e b in
+    let u = both-true (leb 2 (length p)) (eqb (getD p 1 0) 0) (both-true (eqb k 0x0110) (leb 2 (length p) && eqb (getD p 1 0) 0) z .1) in
+    omega (arith, leb-true 2 (length p) (u .0), length-slice (j + 4) e b h)
+
+-- and the path stands behind the tag and 00
+pub name-path : (b : List ℕ) (j e : ℕ) → drop 2 (slice (j + 4) e b) ≡ slice (j + 6) e b
+name-path b j e = let z : j + 4 + 2 ≡ j + 6 = omega arith in drop-drop 2 (j + 4) (take e b) ∙ rw z refl
 
 -- any two ends that a record may have are equal
 pub one-end : {b : List ℕ} {i e f : ℕ} → Ends b i e → Ends b i f → e ≡ f

@@ -1,16 +1,14 @@
 -- Whatever the book, its candidate dump is bytes.
 use Prim.Native.Nat.{ℕ, zero, suc, _+_, _-_, _*_, _%_}
 use mathlib.Core.List.{List, [], _∷_, _++_}
-use mathlib.Core.Bool.{Bool, true, false}
 use native.Mathlib.Omega.{arith}
 use lib.ListN.{length, take, drop}
-use lib.Dec.{eqb}
-use Rattle.elements.specs.Choice.{choose}
+use Rattle.elements.specs.ChoiceLaws.{by-choose}
 use Rattle.rules.specs.Reading.{Rec}
 use Rattle.elements.specs.Record.{recordBytes}
 use Rattle.elements.specs.Lists.{Bytes}
 use Rattle.rules.specs.Book.{laid, recordsOf, records}
-use Rattle.rules.specs.Files.{Name, nameOf, namesOf}
+use Rattle.rules.specs.Files.{Name, namesPath, namesOf}
 use Rattle.rules.specs.Render.{rCia, rOd, rDirectory, framing, rDirectories, used, render}
 use Rattle.rules.specs.Layouts as layouts
 use Rattle.rules.specs.Layouts.{cia-fine}
@@ -38,23 +36,10 @@ abbrev NamesB : List Name → Type 0
 NamesB [] = Unit {0}
 NamesB (n ∷ ns) = AllB (n .path) × NamesB ns
 
-name-b : (p : List ℕ) (ns : List Name) → AllB p → NamesB ns → NamesB (nameOf p ns)
-name-b [] ns h g = g
-name-b (t ∷ []) ns h g = g
-name-b (t ∷ f ∷ p) ns h g = go (eqb f 0)
-  where
-    go : (b : Bool) → NamesB (choose b (λ _. record { tag = t; path = p } ∷ ns) (λ _. ns))
-    go true = (h .1 .1, g)
-    go false = g
-
 names-b : (rs : List Rec) → PayB rs → NamesB (namesOf rs)
 unfolding namesOf
 names-b [] h = tt
-names-b (r ∷ rs) h = go (eqb (r .kind) 0x0110) (names-b rs (h .1))
-  where
-    go : (b : Bool) → NamesB (namesOf rs) → NamesB (choose b (λ _. nameOf (r .pay) (namesOf rs)) (λ _. namesOf rs))
-    go true g = name-b (r .pay) (namesOf rs) (h .0) g
-    go false g = g
+names-b (r ∷ rs) h = by-choose NamesB (namesPath (r .kind) (r .pay)) (λ _ _. (b-drop 2 (r .pay) (h .0), names-b rs (h .1))) (λ _ _. names-b rs (h .1))
 
 directories-b : (ns : List Name) (rs : List Rec) → NamesB ns → PayB rs → AllB (rDirectories ns rs)
 unfolding rDirectories

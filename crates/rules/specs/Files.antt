@@ -35,9 +35,9 @@ pub record File : Type 0 where
   pub start : ℕ
   pub stop : ℕ
 
-pub data Framed : Type 0 where
-  framed : File → Framed
-  broken : Fault → ℕ → Framed
+pub data FrameRead : Type 0 where
+  framed : File → FrameRead
+  broken : Fault → ℕ → FrameRead
 
 pub data Files : Type 0 where
   files : List File → Files
@@ -52,14 +52,13 @@ pub data Answer : Type 0 where
   refused : Fault → ℕ → Answer
 
 -- an entry that names a path stands in the book as 0110, tag, 00, path
-abbrev pub nameOf : List ℕ → List Name → List Name
-nameOf [] ns = ns
-nameOf (t ∷ []) ns = ns
-nameOf (t ∷ f ∷ p) ns = choose (eqb f 0) (λ _. record { tag = t; path = p } ∷ ns) (λ _. ns)
+abbrev pub namesPath : ℕ → List ℕ → Bool
+namesPath k p = eqb k 0x0110 && (leb 2 (length p) && eqb (getD p 1 0) 0)
 
+-- the names in records
 unfoldable pub namesOf : List Rec → List Name
 namesOf [] = []
-namesOf (r ∷ rs) = choose (eqb (r .kind) 0x0110) (λ _. nameOf (r .pay) (namesOf rs)) (λ _. namesOf rs)
+namesOf (r ∷ rs) = choose (namesPath (r .kind) (r .pay)) (λ _. record { tag = getD (r .pay) 0 0; path = drop 2 (r .pay) } ∷ namesOf rs) (λ _. namesOf rs)
 
 abbrev pub equal : List ℕ → List ℕ → Bool
 equal [] [] = true
@@ -91,7 +90,7 @@ module _ (s : List ℕ) where
   two at = getD s at 0 + 256 * getD s (at + 1) 0
 
   -- the record at a place, of the kind that is due, whole; `inner` takes what stands in it
-  unfoldable pub frameOf : ℕ → (ℕ → ℕ → Framed) → ℕ → Framed
+  unfoldable pub frameOf : ℕ → (ℕ → ℕ → FrameRead) → ℕ → FrameRead
   frameOf kind inner at =
       choose (leb (length s) at) (λ _. broken RecordMissing at)
       (λ _. choose (ltb (length s) (at + 4)) (λ _. broken RecordBroken at)
@@ -101,31 +100,31 @@ module _ (s : List ℕ) where
       (λ _. broken RecordKind at)))))
 
   -- "A file is at most 16,383 bytes": from `start` to `stop`, behind n bytes of path length and path
-  unfoldable pub fileIn : ℕ → ℕ → ℕ → ℕ → Framed
+  unfoldable pub fileIn : ℕ → ℕ → ℕ → ℕ → FrameRead
   fileIn at n start stop =
       choose (ltb stop (start + n)) (λ _. broken PathLength at)
       (λ _. choose (ltb 16383 (stop - (start + n))) (λ _. broken FileLength at)
       (λ _. framed (record { place = at; named = start + 1; start = start + n; stop = stop })))
 
-  unfoldable pub frame : ℕ → ℕ → Framed
+  unfoldable pub frame : ℕ → ℕ → FrameRead
   frame kind at = frameOf kind (λ a e. fileIn at 0 a e) at
 
   -- "one byte of path length 1 to 64, path, directory file"
-  unfoldable pub namedFile : ℕ → ℕ → ℕ → Framed
+  unfoldable pub namedFile : ℕ → ℕ → ℕ → FrameRead
   namedFile at a e =
       choose (leb e a) (λ _. broken PathLength at)
       (λ _. choose (ltb (getD s a 0) 1) (λ _. broken PathLength at)
       (λ _. choose (ltb 64 (getD s a 0)) (λ _. broken PathLength at)
       (λ _. fileIn at (1 + getD s a 0) a e)))
 
-  unfoldable pub namedFrame : ℕ → Framed
+  unfoldable pub namedFrame : ℕ → FrameRead
   namedFrame at = frameOf 3 (namedFile at) at
 
   abbrev pub consFile : File → Files → Files
   consFile f (files fs) = files (f ∷ fs)
   consFile f (brokenAt x p) = brokenAt x p
 
-  abbrev pub moreFiles : Framed → (ℕ → Files) → Files
+  abbrev pub moreFiles : FrameRead → (ℕ → Files) → Files
   moreFiles (framed f) k = consFile f (k (f .stop))
   moreFiles (broken x p) k = brokenAt x p
 
@@ -196,7 +195,7 @@ repeated ids place ps (r ∷ rs) =
     (λ _. repeated ids place ps rs))
 
 -- what to do with what a stage answered
-abbrev pub onFramed : Framed → (File → Answer) → Answer
+abbrev pub onFramed : FrameRead → (File → Answer) → Answer
 onFramed (framed f) k = k f
 onFramed (broken x p) k = refused x p
 

@@ -1,13 +1,13 @@
--- The payloads of the records of one kind.
+-- The payloads of the records of one kind, and the names in records.
 use Prim.Native.Nat.{ℕ, _+_, _≤_}
 use mathlib.Core.List.{List, [], _∷_, _++_, List·Memᴰ, List·Memᴰ·head, List·Memᴰ·tail, List·Memᴰ·not-nil, List·Memᴰ·cases-cons}
 use mathlib.Core.Logic.{_↔_, ⊎-elim}
-use mathlib.Core.Bool.{Bool, true, false, not}
+use mathlib.Core.Bool.{Bool, true, false, _&&_, not}
 use mathlib.Core.Option.{none, some}
 use mathlib.Core.Path.{_≡_, refl, sym, ap, _∙_}
 use native.Mathlib.Omega.{arith}
-use lib.ListN.{length, length-append}
-use lib.Dec.{eqb, T}
+use lib.ListN.{length, getD, drop, length-append}
+use lib.Dec.{leb, eqb, T}
 use borrow.Author.Tests.{eqb-true, eqb-false}
 use Rattle.elements.specs.Choice.{pick, choose}
 use Rattle.elements.specs.Sealed.{among}
@@ -19,6 +19,7 @@ use Rattle.rules.specs.Tables.{ownIdRow}
 use Rattle.rules.specs.Grammar.{slot, tagged, unlessEmpty, payOf, field, fields, flat}
 use Rattle.rules.specs.Kinds.{Among, none-there, there, kindsOf}
 use Rattle.rules.specs.Layout.{Layout}
+use Rattle.rules.specs.Files.{Name, namesPath, namesOf}
 
 -- the payloads of the records of kind k, in order
 unfoldable pub pays : ℕ → List Rec → List (List ℕ)
@@ -43,6 +44,26 @@ pub pays-flat : {A : Type 0} (k : ℕ) (f : A → List Rec) (g : A → List (Lis
 unfolding pays
 pays-flat k f g h [] = refl
 pays-flat k f g h (x ∷ xs) = pays-append k (f x) (flat f xs) ∙ rw (h x, pays-flat k f g h xs) refl
+
+-- the names in records behind records
+pub names-append : (rs ss : List Rec) → namesOf (rs ++ ss) ≡ namesOf rs ++ namesOf ss
+unfolding namesOf
+names-append [] ss = refl
+names-append (r ∷ rs) ss = rw (names-append rs ss) (go (namesPath (r .kind) (r .pay)) (record { tag = getD (r .pay) 0 0; path = drop 2 (r .pay) }))
+  where
+    go : (b : Bool) (n : Name) → choose b (λ _. n ∷ (namesOf rs ++ namesOf ss)) (λ _. namesOf rs ++ namesOf ss) ≡ choose b (λ _. n ∷ namesOf rs) (λ _. namesOf rs) ++ namesOf ss
+    go true n = refl
+    go false n = refl
+
+-- there are none without 0110
+pub names-none : (rs : List Rec) → pays 0x0110 rs ≡ [] → namesOf rs ≡ []
+unfolding namesOf pays
+names-none [] h = refl
+names-none (r ∷ rs) h = go (eqb (r .kind) 0x0110) (leb 2 (length (r .pay)) && eqb (getD (r .pay) 1 0) 0) (names-none rs) h
+  where
+    go : (b c : Bool) → (pays 0x0110 rs ≡ [] → namesOf rs ≡ []) → choose b (λ _. r .pay ∷ pays 0x0110 rs) (λ _. pays 0x0110 rs) ≡ [] → choose (b && c) (λ _. record { tag = getD (r .pay) 0 0; path = drop 2 (r .pay) } ∷ namesOf rs) (λ _. namesOf rs) ≡ []
+    go true c i h = absurd (omega (arith, ap length h))
+    go false c i h = i h
 
 -- where no record is of kind k
 pub pays-none : (k : ℕ) (ks : List ℕ) → T (not (among k ks)) → {rs : List Rec} → Among ks rs → pays k rs ≡ []

@@ -4,6 +4,7 @@ ghost use mathlib.Core.Path.{_≡_};
 ghost use Prim.Native.Nat.{_+_, _≤_};
 ghost use lib.ListN.{length, getD};
 ghost use lib.Seq.{slice};
+ghost use Rattle.rules.specs.Files.{two, namesPath};
 ghost use Rattle.rules.specs.Book.{recordsFrom, Ends, nextIs};
 
 // Where the record at i ends: its length may be senseless, or go beyond the book.
@@ -41,4 +42,18 @@ pub fn byte_at(b: &[u8], p: usize, e: usize, k: usize) -> u8
         return 0;
     }
     b[p + k]
+}
+
+// Whether the record at j, which ends at e, names a path.
+pub fn is_name(b: &[u8], j: usize, e: usize) -> bool
+    requires { ⌜ (j + 4 ≤ e) × (e ≤ length (now b)) ⌝ }
+    ensures { λ r. ⌜ r ≡ namesPath (two (now (b .entry)) (j + 2)) (slice (j + 4) e (now (b .entry))) ⌝ }
+{
+    if word(b, j + 2) != 0x0110 {
+        return false;
+    }
+    if e - (j + 4) < 2 {
+        return false;
+    }
+    byte_at(b, j + 4, e, 1) == 0
 }

@@ -9,6 +9,7 @@ mod table;
 mod types;
 
 pub use book::byte_at;
+pub use book::is_name;
 pub use book::is_next;
 pub use book::record_end;
 pub use bytes::of_two;

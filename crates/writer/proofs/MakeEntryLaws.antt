@@ -3,13 +3,14 @@ use Prim.Native.Nat.{ℕ, _+_, _<_, _≤_}
 use mathlib.Core.Path.{_≡_, refl, sym, _∙_}
 use mathlib.Core.List.{List}
 use native.Mathlib.Omega.{arith}
-use lib.ListN.{getD, take, drop-of-length-le}
-use lib.Seq.{slice, slice-empty, drop-drop, length-slice}
+use lib.ListN.{getD, drop-of-length-le}
+use lib.Seq.{slice, slice-empty, length-slice}
 use borrow.Author.Tests.{lt-ltb, le-ltb, ne-eqb}
 use Rattle.elements.specs.Length.{wrap}
 use Rattle.writer.specs.declared.made.Made.{Made}
 use Rattle.rules.specs.Render.{Rendered, gives, within, rObjects, rInside, rEntryOf, rEntry}
 use Rattle.rules.specs.Book.{recordsFrom, Ends}
+use Rattle.rules.specs.BookLaws.{name-path}
 use Rattle.writer.specs.Making.{Makes, Onward, Tail}
 use Rattle.writer.proofs.MadeLaws.{makes-as, makes-behind, made-steps, from-some, onward-one}
 
@@ -18,7 +19,7 @@ pub tail-none : (i e : ℕ) → e < i + 6 → Tail i e e
 tail-none i e h = record { is = λ b l. drop-of-length-le (slice (i + 4) e b) {i = 2} (omega (arith, length-slice (i + 4) e b l)) ∙ sym (slice-empty e b) }
 
 pub tail-some : (i e : ℕ) → i + 6 ≤ e → Tail i e (i + 6)
-tail-some i e h = record { is = λ b l. let z : i + 4 + 2 ≡ i + 6 = omega arith in drop-drop 2 (i + 4) (take e b) ∙ rw z refl }
+tail-some i e h = record { is = λ b l. name-path b i e }
 
 -- what is read behind the record at i takes that record
 pub onward-behind : {b a c : List ℕ} {i e o : ℕ} {w : Rendered} {r : Made} → Ends b i e → Makes b a c e o w r → Onward b i r

@@ -2,18 +2,18 @@
 use Prim.Native.Nat.{ℕ, _+_}
 use mathlib.Core.Path.{_≡_}
 use mathlib.Core.Bool.{Bool, true, false}
-use mathlib.Core.List.{List, [], _∷_}
+use mathlib.Core.List.{List}
 use lib.ListN.{getD}
 use lib.Seq.{slice}
 use Rattle.writer.specs.declared.made.Made.{Made}
 use Rattle.writer.specs.declared.made.Made.the-variants.{Took, Long}
 use Rattle.rules.specs.declared.table.Class.{Class}
 use Rattle.rules.specs.declared.table.Class.the-variants.{Keys, Certificates, Containers, Authentications}
-use Rattle.rules.specs.declared.table.Sequence.{Sequence}
 use Rattle.rules.specs.declared.table.ObjectType.{ObjectType}
-use Rattle.rules.specs.Tables.{rowsOf, keyRows, certificateRows, authenticationRows, classOf, typeOf}
-use Rattle.rules.specs.Render.{Renderer, _next_, within, when, plain, rRows, rKeep, rCommon, rClass, rType, rContents, rObject, rObjects}
+use Rattle.rules.specs.Tables.{keyRows, certificateRows, authenticationRows, classOf, typeOf}
+use Rattle.rules.specs.Render.{_next_, within, rRows, rKeep, rCommon, rClass, rType, rContents, rObject, rObjects}
 use Rattle.rules.specs.Book.{recordsFrom, nextIs, Ends}
+use Rattle.writer.specs.Composed.{subclass, attributes}
 use Rattle.writer.specs.Making.{Makes}
 use Rattle.writer.proofs.MadeLaws.{then-long, then-took, from-some}
 use Rattle.writer.proofs.ManyLaws.{three-first, three-second, three-third, Repeating, repeating-all, repeating-long}
@@ -39,12 +39,6 @@ module _ {b a c : List ℕ} {i o : ℕ} {r : Made} {x : Class} where
   class-containers z m = rw z m
 
 -- common, class and subclass
-abbrev subclass : Renderer
-subclass = when (0x0170 ∷ []) (within 0xa0 plain)
-
-abbrev attributes : ℕ → Renderer
-attributes entry = within 0x30 rCommon next within 0x30 (rClass (classOf entry)) next subclass
-
 module _ (entry : ℕ) {b a c : List ℕ} {i o : ℕ} {r : Made} (m : Makes b a c i o (within 0x30 rCommon (recordsFrom b i)) r) where
   pub attributes-first : r ≡ Long → Makes b a c i o (attributes entry (recordsFrom b i)) Long
   attributes-first z = three-first (within 0x30 rCommon) (within 0x30 (rClass (classOf entry))) subclass m z

@@ -1,25 +1,22 @@
 -- The dump that could have a book, made.
 use Prim.Native.Nat.{ℕ, _+_, _-_, _%_, _<_, _≤_}
 use mathlib.Core.Path.{_≡_, refl, sym, ap, _∙_}
-use mathlib.Core.Bool.{Bool, true, false, _&&_}
+use mathlib.Core.Bool.{Bool, true, false}
 use mathlib.Core.List.{List, [], _∷_, _++_, append-assoc, append-nil}
 use native.Mathlib.Omega.{arith}
-use lib.ListN.{length, getD, drop, length-append}
+use lib.ListN.{length, getD, length-append}
 use lib.Seq.{slice, length-slice, take-at}
-use lib.Dec.{leb, eqb}
-use borrow.Author.Tests.{le-leb, lt-leb, eq-eqb, ne-eqb, leb-true}
-use Rattle.elements.specs.Choice.{choose}
 use Rattle.elements.specs.Put.{Put, le16}
 use Rattle.elements.specs.PutLaws.{put-none, put-put, put-length}
 use Rattle.elements.specs.Record.{recordBytes}
 use Rattle.writer.specs.declared.made.Made.{Made}
 use Rattle.writer.specs.declared.made.Made.the-variants.{Took, Long}
 use Rattle.rules.specs.Reading.{Rec, rec}
-use Rattle.rules.specs.Files.{Name, two, namesOf}
+use Rattle.rules.specs.Files.{Name, two, namesPath, namesOf}
 use Rattle.rules.specs.Book.{records, recordsFrom, Ends}
+use Rattle.rules.specs.BookLaws.{name-room, name-path, one-end}
 use Rattle.rules.specs.Render.{Rendered, gives, rCia, rOd, rDirectory, rDirectories, framing, used, render}
-use Rattle.writer.specs.Making.{Walk, there, onto, Steps, Makes, makes, breaks, Opened, begins, Ended, Closed, Fitted, fits, beyond, names, Named, FileMade, FilesMade, TwoMade}
-use Rattle.writer.proofs.MakeEntryLaws.{tail-some}
+use Rattle.writer.specs.Making.{Walk, there, onto, Steps, Makes, makes, breaks, Opened, begins, Ended, Closed, Fitted, fits, beyond, Named, FileMade, FilesMade, TwoMade}
 use Rattle.writer.proofs.MadeLaws.{closed-up, moved-same, contents, closed-made, put-made, makes-same, made-put, made-left, made-room, made-steps, made-long, made-high}
 
 -- a dump record around contents
@@ -45,17 +42,6 @@ fronted c o k {m} {n} {q} {c′} {d} {p} {p′} l z h f g = record {
 pub framing-made : (k : ℕ) (w : Rendered) {b a c d : List ℕ} {i o r : ℕ} {m s : Made} → Opened (length a) o 4 r → Makes b a c i r w m → Closed c d o 4 (framing k) m s → Makes b a d i o (gives (framing k (w .bytes)) (w .left)) s
 framing-made k w h g e = closed-made h g e
 
--- whether a record names a path
-module _ (b : List ℕ) (j e : ℕ) where
-  pub name-kind : {x : ℕ} → x ≡ two b (j + 2) → (x ≡ 0x0110 → ⊥) → false ≡ names b j e
-  name-kind q z = rw (← q, ne-eqb _ 0x0110 z) refl
-
-  pub name-short : {x : ℕ} → x ≡ two b (j + 2) → x ≡ 0x0110 → e - (j + 4) < 2 → false ≡ names b j e
-  name-short q z l = rw (← q, eq-eqb _ 0x0110 z, lt-leb 2 (e - (j + 4)) l) refl
-
-  pub name-byte : {x y : ℕ} → x ≡ two b (j + 2) → x ≡ 0x0110 → 2 ≤ e - (j + 4) → y ≡ getD (slice (j + 4) e b) 1 0 → eqb y 0 ≡ names b j e
-  name-byte q z l t = rw (← q, ← t, eq-eqb _ 0x0110 z, le-leb 2 (e - (j + 4)) l) refl
-
 -- a path behind its length
 pub path-named : (b : List ℕ) (p e : ℕ) {a c d : List ℕ} {o n r : ℕ} → p ≤ e → e ≤ length b → Put a c o n ((e - p) % 256 ∷ []) → Put c d n r (slice p e b) → Named b a d p e o r
 path-named b p e h l f g = let z : length (slice p e b) ≡ e - p = length-slice p e b l in record { is = rw z (put-put f g) }
@@ -74,15 +60,6 @@ module _ (b : List ℕ) (j e i o : ℕ) {a c : List ℕ} {p : ℕ} (f : Named b 
   pub file-made : {d g : List ℕ} {m s : Made} → Makes b c d i p (rDirectory (recordsFrom b i)) m → Closed d g o 4 (framing 3) m s → FileMade b a g j e i o s
   file-made m k = record { is = closed-made begins (put-made (f .is) m) k }
 
--- a record ends in one place
-rec-pay : {k k′ : ℕ} {p p′ : List ℕ} {rs ws : List Rec} → rec k p ∷ rs ≡ rec k′ p′ ∷ ws → p ≡ p′
-rec-pay {k} {k′} {p} {p′} e = let q : rec k p ≡ rec k′ p′ = cc in ap (λ (r : Rec). r .pay) q
-
-pub ends-same : {b : List ℕ} {i e e′ : ℕ} → Ends b i e → Ends b i e′ → e ≡ e′
-ends-same {b} {i} {e} {e′} f g =
-    let q : slice (i + 4) e b ≡ slice (i + 4) e′ b = rec-pay (sym (f .is) ∙ g .is) in
-    omega (arith, ap length q, length-slice (i + 4) e b (f .high), length-slice (i + 4) e′ b (g .high), f .low, g .low)
-
 walk-low : {b : List ℕ} {i n : ℕ} {rs : List Rec} → Walk b i n rs → i ≤ n
 walk-low there = omega arith
 walk-low (onto h f) = omega (arith, h .low, walk-low f)
@@ -95,7 +72,7 @@ pub record FirstOf (b : List ℕ) (i e n : ℕ) (rs : List Rec) : Type 0 where
 
 first-of : {b : List ℕ} {i e n : ℕ} {rs : List Rec} → Ends b i e → i < n → Walk b i n rs → FirstOf b i e n rs
 first-of h l there = absurd (omega arith)
-first-of h l (onto {rs = rs} k g) = let q = ends-same k h in record { rest = rs; is = rw q refl; walk = rw q at g }
+first-of h l (onto {rs = rs} k g) = let q = one-end k h in record { rest = rs; is = rw q refl; walk = rw q at g }
 
 -- a walk has one list of records
 walk-same : {b : List ℕ} {i n : ℕ} {rs ws : List Rec} → Walk b i n rs → Walk b i n ws → rs ≡ ws
@@ -105,33 +82,6 @@ walk-same there g = none g refl
     none there e = refl
     none (onto h f) e = absurd (omega (arith, h .low, walk-low f))
 walk-same {b} {i} (onto {e = e} h f) g = let w = first-of h (omega (arith, h .low, walk-low f)) g in ap (λ (r : List Rec). rec (two b (i + 2)) (slice (i + 4) e b) ∷ r) (walk-same f (w .walk)) ∙ sym (w .is)
-
--- the names of records
-either-way : {A : Type 0} (c d : Bool) (x y : A) → (c && d) ≡ false → choose c (λ _. choose d (λ _. x) (λ _. y)) (λ _. y) ≡ y
-either-way true true x y e = absurd (let z : _≡_ {A = ℕ} 0 1 = cc in omega arith)
-either-way true false x y e = refl
-either-way false d x y e = refl
-
-no-matter : {A : Type 0} (c : Bool) (y : A) → choose c (λ _. y) (λ _. y) ≡ y
-no-matter true y = refl
-no-matter false y = refl
-
-not-named : (k : ℕ) (p : List ℕ) (rs : List Rec) → (eqb k 0x0110 && (leb 2 (length p) && eqb (getD p 1 0) 0)) ≡ false → namesOf (rec k p ∷ rs) ≡ namesOf rs
-unfolding namesOf
-not-named k [] rs e = no-matter (eqb k 0x0110) (namesOf rs)
-not-named k (x ∷ []) rs e = no-matter (eqb k 0x0110) (namesOf rs)
-not-named k (x ∷ y ∷ p) rs e = either-way (eqb k 0x0110) (eqb y 0) (record { tag = x; path = p } ∷ namesOf rs) (namesOf rs) (rw (le-leb 2 (length (x ∷ y ∷ p)) (omega arith)) at e)
-
-both : (c d : Bool) → (c && d) ≡ true → (c ≡ true) × (d ≡ true)
-both true true e = (refl, refl)
-both true false e = absurd (let z : _≡_ {A = ℕ} 0 1 = cc in omega arith)
-both false d e = absurd (let z : _≡_ {A = ℕ} 0 1 = cc in omega arith)
-
-so-named : (k : ℕ) (p : List ℕ) (rs : List Rec) → (eqb k 0x0110 && (leb 2 (length p) && eqb (getD p 1 0) 0)) ≡ true → namesOf (rec k p ∷ rs) ≡ record { tag = getD p 0 0; path = drop 2 p } ∷ namesOf rs
-unfolding namesOf
-so-named k [] rs e = let u = both (eqb k 0x0110) (leb 2 0 && eqb 0 0) e in absurd (let z : _≡_ {A = ℕ} 0 1 = cc in omega arith)
-so-named k (x ∷ []) rs e = let u = both (eqb k 0x0110) (leb 2 1 && eqb 0 0) e in absurd (let z : _≡_ {A = ℕ} 0 1 = cc in omega arith)
-so-named k (x ∷ y ∷ p) rs e = let u = both (eqb k 0x0110) (leb 2 (length (x ∷ y ∷ p)) && eqb y 0) e in let v = both (leb 2 (length (x ∷ y ∷ p))) (eqb y 0) (u .1) in rw (u .0, v .1) refl
 
 -- the files are being made: those of the records from k on are left, and their objects' records start at n
 pub record Filing (b a c : List ℕ) (j end i o k n p : ℕ) : Type 0 where
@@ -173,33 +123,29 @@ module _ {b a c : List ℕ} {j end i o k n p : ℕ} (m : Filing b a c j end i o 
   unfolding rDirectories namesOf
   filing-done l = record { is = λ rs w. let z : m .made ++ rDirectories (namesOf (m .rest)) (recordsFrom b n) ≡ m .made = ap (λ (x : List Rec). m .made ++ rDirectories (namesOf x) (recordsFrom b n)) (walk-none (m .walk) l) ∙ append-nil (m .made) in rw (m .whole rs w ∙ z) (fits (m .put) (m .room)) }
 
-  module _ (l : k < end) {e : ℕ} (h : Ends b k e) {t : Bool} (q : t ≡ names b k e) where
+  module _ (l : k < end) {e : ℕ} (h : Ends b k e) {t : Bool} (q : t ≡ namesPath (two b (k + 2)) (slice (k + 4) e b)) where
     first : FirstOf b k e end (m .rest)
     first = first-of h l (m .walk)
 
-    size : e - (k + 4) ≡ length (slice (k + 4) e b)
-    size = sym (length-slice (k + 4) e b (h .high))
-
     -- it names no path
     pub filing-pass : t ≡ false → Filing b a c j end i o e n p
+    unfolding namesOf
     filing-pass z =
         let w = first in
-        let u = not-named (two b (k + 2)) (slice (k + 4) e b) (w .rest) (rw (size) at (sym q ∙ z)) in
+        let u : namesOf (rec (two b (k + 2)) (slice (k + 4) e b) ∷ w .rest) ≡ namesOf (w .rest) = rw (sym q ∙ z) refl in
         record { rest = w .rest; walk = w .walk; made = m .made; put = m .put; room = m .room; same = m .same; high = m .high; whole = λ rs v. m .whole rs v ∙ ap (λ (x : List Name). m .made ++ rDirectories x (recordsFrom b n)) (ap namesOf (w .is) ∙ u) }
 
     -- it names one
     pub filing-long-enough : t ≡ true → k + 6 ≤ e
-    filing-long-enough z = let u = both (eqb (two b (k + 2)) 0x0110) (leb 2 (e - (k + 4)) && eqb (getD (slice (k + 4) e b) 1 0) 0) (sym q ∙ z) in let v = both (leb 2 (e - (k + 4))) (eqb (getD (slice (k + 4) e b) 1 0) 0) (u .1) in omega (arith, leb-true 2 (e - (k + 4)) (v .0), h .low)
+    filing-long-enough z = name-room (two b (k + 2)) b k e (h .high) (sym q ∙ z)
 
     module _ (z : t ≡ true) {d : List ℕ} {r : Made} (f : FileMade b c d k e n p r) where
       named : (rs : List Rec) → Walk b j end rs → rDirectories (namesOf rs) (recordsFrom b i) ≡ m .made ++ (framing 3 (fileBytes b k e n) ++ rDirectories (namesOf (first .rest)) (rDirectory (recordsFrom b n) .left))
-      unfolding rDirectories
+      unfolding rDirectories namesOf
       named rs v =
           let w = first in
-          let u = so-named (two b (k + 2)) (slice (k + 4) e b) (w .rest) (rw (size) at (sym q ∙ z)) in
-          let y = tail-some k e (filing-long-enough z) .is b (h .high) in
-          let s : record { tag = getD (slice (k + 4) e b) 0 0; path = drop 2 (slice (k + 4) e b) } ∷ namesOf (w .rest) ≡ record { tag = getD (slice (k + 4) e b) 0 0; path = slice (k + 6) e b } ∷ namesOf (w .rest) = rw y refl in
-          m .whole rs v ∙ ap (λ (x : List Name). m .made ++ rDirectories x (recordsFrom b n)) (ap namesOf (w .is) ∙ u ∙ s)
+          let u : namesOf (rec (two b (k + 2)) (slice (k + 4) e b) ∷ w .rest) ≡ record { tag = getD (slice (k + 4) e b) 0 0; path = slice (k + 6) e b } ∷ namesOf (w .rest) = rw (sym q ∙ z, name-path b k e) refl in
+          m .whole rs v ∙ ap (λ (x : List Name). m .made ++ rDirectories x (recordsFrom b n)) (ap namesOf (w .is) ∙ u)
 
       pub filing-long : r ≡ Long → FilesMade b a d j end i o Long
       filing-long y = record { is = λ rs v. rw (named rs v) (beyond (omega (arith, made-long (f .is) y, m .put .at, m .same, length-append (m .made) (framing 3 (fileBytes b k e n) ++ rDirectories (namesOf (first .rest)) (rDirectory (recordsFrom b n) .left)), length-append (framing 3 (fileBytes b k e n)) (rDirectories (namesOf (first .rest)) (rDirectory (recordsFrom b n) .left)))) (makes-same (f .is) ∙ m .same)) }

@@ -1,11 +1,9 @@
 -- What the code does of the renderer.
-use Prim.Native.Nat.{ℕ, _+_, _-_, _%_, _≤_, _<_}
+use Prim.Native.Nat.{ℕ, _+_, _%_, _≤_, _<_}
 use mathlib.Core.Path.{_≡_}
 use mathlib.Core.List.{List, [], _∷_, _++_}
-use mathlib.Core.Bool.{Bool, _&&_}
-use lib.ListN.{length, getD, take, drop}
+use lib.ListN.{length, take, drop}
 use lib.Seq.{slice}
-use lib.Dec.{leb, eqb}
 use Rattle.elements.specs.Put.{Put}
 use Rattle.writer.specs.declared.made.Made.{Made}
 use Rattle.writer.specs.declared.made.Made.the-variants.{Took, Long}
@@ -65,10 +63,6 @@ pub record Tail (i e r : ℕ) : Type 0 where
 pub data Fitted (a c : List ℕ) (o : ℕ) (x : List ℕ) : Made → Type 0 where
   fits : {n q : ℕ} → Put a c o q x → q ≤ length a → Fitted a c o x (Took n q)
   beyond : length a < o + length x → length c ≡ length a → Fitted a c o x Long
-
--- the record at j, which ends at e, names a path
-abbrev pub names : List ℕ → ℕ → ℕ → Bool
-names b j e = eqb (two b (j + 2)) 0x0110 && (leb 2 (e - (j + 4)) && eqb (getD (slice (j + 4) e b) 1 0) 0)
 
 -- a directory file for the record at j, which ends at e and names a path; its objects' records are those from i on
 pub record FileMade (b a c : List ℕ) (j e i o : ℕ) (r : Made) : Type 0 where

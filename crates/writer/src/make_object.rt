@@ -14,13 +14,11 @@ use rules::class_of;
 use rules::is_next;
 use rules::record_end;
 use rules::type_of;
-ghost use mathlib.Core.Path.{_≡_};
-ghost use mathlib.Core.List.{[], _∷_};
 ghost use Prim.Native.Nat.{_+_, _≤_};
 ghost use lib.ListN.{length};
-ghost use Rattle.rules.specs.Tables.{classOf};
-ghost use Rattle.rules.specs.Render.{_next_, within, when, plain, rCommon, rClass, rType, rContents, rObject, rObjects};
+ghost use Rattle.rules.specs.Render.{within, rCommon, rClass, rType, rContents, rObject, rObjects};
 ghost use Rattle.rules.specs.Book.{recordsFrom};
+ghost use Rattle.writer.specs.Composed.{subclass, attributes};
 ghost use Rattle.writer.specs.Making.{Making, Makes, Onward};
 
 // What an object of a class has.
@@ -57,7 +55,7 @@ fn class_element(b: &[u8], i: usize, c: Class, out: &mut [u8], o: usize) -> Made
 // "Subclass: one sealed element inside the A0", if the next record is one's.
 fn make_subclass(b: &[u8], i: usize, out: &mut [u8], o: usize) -> Made
     requires { ⌜ Making (now b) i (now out) o ⌝ }
-    ensures { λ r. ⌜ Makes (now (b .entry)) (now (out .entry)) (now (out .exit)) i o (when (0x0170 ∷ []) (within 0xa0 plain) (recordsFrom (now (b .entry)) i)) r ⌝ }
+    ensures { λ r. ⌜ Makes (now (b .entry)) (now (out .entry)) (now (out .exit)) i o (subclass (recordsFrom (now (b .entry)) i)) r ⌝ }
 {
     if is_next(b, i, 0x0170) {
         let made = make_plain(b, i, out, opened(out.len(), o, 2));
@@ -78,7 +76,7 @@ fn type_element(b: &[u8], i: usize, t: ObjectType, out: &mut [u8], o: usize) -> 
 // Common, class and subclass.
 fn make_attributes(b: &[u8], i: usize, entry: u8, out: &mut [u8], o: usize) -> Made
     requires { ⌜ Making (now b) i (now out) o ⌝ }
-    ensures { λ r. ⌜ Makes (now (b .entry)) (now (out .entry)) (now (out .exit)) i o ((within 0x30 rCommon next within 0x30 (rClass (classOf entry)) next when (0x0170 ∷ []) (within 0xa0 plain)) (recordsFrom (now (b .entry)) i)) r ⌝ }
+    ensures { λ r. ⌜ Makes (now (b .entry)) (now (out .entry)) (now (out .exit)) i o (attributes entry (recordsFrom (now (b .entry)) i)) r ⌝ }
 {
     match common_element(b, i, out, o) {
         Made::Long => Made::Long,

@@ -6,15 +6,13 @@ use crate::make_entry::make_od;
 use elements::put_byte;
 use elements::put_le16;
 use elements::put_part;
-use rules::byte_at;
+use rules::is_name;
 use rules::record_end;
-use rules::word;
-ghost use mathlib.Core.Path.{_≡_};
 ghost use Prim.Native.Nat.{_+_, _≤_};
 ghost use lib.ListN.{length};
-ghost use Rattle.rules.specs.Book.{records, Ends};
+ghost use Rattle.rules.specs.Book.{records};
 ghost use Rattle.rules.specs.Render.{framing, render};
-ghost use Rattle.writer.specs.Making.{Steps, Making, Ended, Closed, Fitted, Named, FileMade, FilesMade, TwoMade, names};
+ghost use Rattle.writer.specs.Making.{Steps, Making, Ended, Closed, Fitted, Named, FileMade, FilesMade, TwoMade};
 
 // The length and kind of a dump record at o go in front of its contents, which were made behind these four bytes.
 fn fronted(out: &mut [u8], o: usize, kind: u16, made: Made) -> Made
@@ -32,20 +30,6 @@ fn fronted(out: &mut [u8], o: usize, kind: u16, made: Made) -> Made
             Made::Took(n, q)
         }
     }
-}
-
-// Whether the record at j, which ends at e, names a path.
-fn is_name(b: &[u8], j: usize, e: usize) -> bool
-    requires { ⌜ Ends (now b) j e ⌝ }
-    ensures { λ r. ⌜ r ≡ names (now (b .entry)) j e ⌝ }
-{
-    if word(b, j + 2) != 0x0110 {
-        return false;
-    }
-    if e - (j + 4) < 2 {
-        return false;
-    }
-    byte_at(b, j + 4, e, 1) == 0
 }
 
 // A path behind its length.

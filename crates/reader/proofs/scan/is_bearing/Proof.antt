@@ -7,7 +7,8 @@ pub is-bearing-spec : {M : Type 1} → statement M
 is-bearing-spec =
     tie.close (tie.spec
     (λ c. search needs)  -- enum-told
-    (λ c κs. search needs)  -- names-requires
+    (λ c κs. search needs)  -- after-requires
+    (λ c κs. search needs)  -- is-name-requires
     (λ c. search needs)  -- enum-told-2
     (λ c. search needs)  -- add-word
     (λ c κs. search needs)  -- word-requires

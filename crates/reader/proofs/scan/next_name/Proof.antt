@@ -17,7 +17,7 @@ next-name-spec =
     Inv-loop
     μ-loop
     (λ c. search unnamed-none)  -- loop-holds
-    (λ c κs. search whole)  -- names-requires
+    (λ c κs. search whole)  -- is-bearing-requires
     (λ c. search unnamed-found)  -- returns
     (λ c κs. search whole)  -- after-requires
     (λ c. search needs)  -- loop-less

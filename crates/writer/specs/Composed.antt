@@ -1,0 +1,13 @@
+-- Parts of layouts that a function of the code makes: one after the other, as Layouts has them.
+use Prim.Native.Nat.{ℕ}
+use mathlib.Core.List.{[], _∷_}
+use Rattle.rules.specs.Tables.{classOf}
+use Rattle.rules.specs.Render.{Renderer, _next_, within, when, plain, rCommon, rClass}
+
+-- "subclass A0?", one sealed element in it
+abbrev pub subclass : Renderer
+subclass = when (0x0170 ∷ []) (within 0xa0 plain)
+
+-- "common 30, class 30, subclass A0?", of an entry's objects
+abbrev pub attributes : ℕ → Renderer
+attributes entry = within 0x30 rCommon next within 0x30 (rClass (classOf entry)) next subclass
