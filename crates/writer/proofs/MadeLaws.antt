@@ -30,11 +30,11 @@ moved-none : (c : List ℕ) (to by : ℕ) → to + by ≤ length c → Moved c c
 moved-none c to by h = record { is = rw (slice-empty to c, append-nil (take (to + by) c)) (sym (take-append-drop (to + by) c)) }
 
 -- or not at all
-pub moved-same : (c : List ℕ) (from to by : ℕ) → by ≡ 0 → from ≤ to → to + by ≤ length c → Moved c c from to by
-moved-same c from to by e h l =
-    let a : from + by ≡ from = omega arith in
+pub moved-same : (c : List ℕ) (start to by : ℕ) → by ≡ 0 → start ≤ to → to + by ≤ length c → Moved c c start to by
+moved-same c start to by e h l =
+    let a : start + by ≡ start = omega arith in
     let b : to + by ≡ to = omega arith in
-    record { is = rw (a, b) (sym (rw (join 0 from to c (omega arith) h) (take-append-drop to c))) }
+    record { is = rw (a, b) (sym (rw (join 0 start to c (omega arith) h) (take-append-drop to c))) }
 
 moved-step : (c x : List ℕ) (to by j y : ℕ) → Moved c x (suc j) to by → suc j ≤ to → to + by ≤ length c → y ≡ getD x j 0 → Moved c (set x (j + by) y) j to by
 moved-step c x to by j y m h l q =
@@ -52,23 +52,23 @@ moved-step c x to by j y m h l q =
     record { is = rw e (set-at P z (S ++ D) y (j + by) n ∙ rw (slice-cons j to c 0 h (omega arith), g) (sym (append-assoc P (getD c j 0 ∷ S) D))) }
 
 -- what stands from k on has moved
-pub record Shifting (c x : List ℕ) (from to by k : ℕ) : Type 0 where
+pub record Shifting (c x : List ℕ) (start to by k : ℕ) : Type 0 where
   pub is : Moved c x k to by
-  pub low : from ≤ k
+  pub low : start ≤ k
   pub high : k ≤ to
   pub same : length x ≡ length c
 
-pub shifting-start : (c : List ℕ) (from to by : ℕ) → from ≤ to → to + by ≤ length c → Shifting c c from to by to
-shifting-start c from to by h l = record { is = moved-none c to by l; low = h; high = omega arith; same = refl }
+pub shifting-start : (c : List ℕ) (start to by : ℕ) → start ≤ to → to + by ≤ length c → Shifting c c start to by to
+shifting-start c start to by h l = record { is = moved-none c to by l; low = h; high = omega arith; same = refl }
 
-module _ {c x : List ℕ} {from to by k : ℕ} (m : Shifting c x from to by k) where
-  pub shifting-more : {j y : ℕ} → from < k → to + by ≤ length c → j ≡ k - 1 → y ≡ getD x j 0 → Shifting c (set x (j + by) y) from to by j
+module _ {c x : List ℕ} {start to by k : ℕ} (m : Shifting c x start to by k) where
+  pub shifting-more : {j y : ℕ} → start < k → to + by ≤ length c → j ≡ k - 1 → y ≡ getD x j 0 → Shifting c (set x (j + by) y) start to by j
   shifting-more {j} {y} z l e q =
       let s : k ≡ suc j = omega arith in
       record { is = moved-step c x to by j y (rw s at (m .is)) (omega (arith, m .high)) l q; low = omega arith; high = omega (arith, m .high); same = length-set x (j + by) y ∙ m .same }
 
-  pub shifting-done : k ≤ from → Moved c x from to by
-  shifting-done h = let s : k ≡ from = omega (arith, m .low) in rw s at (m .is)
+  pub shifting-done : k ≤ start → Moved c x start to by
+  shifting-done h = let s : k ≡ start = omega (arith, m .low) in rw s at (m .is)
 
 -- a put leaves what is before it and behind it
 before-put : {a c : List ℕ} {o q : ℕ} {x : List ℕ} (k : ℕ) → Put a c o q x → q ≤ length a → k ≤ o → take k c ≡ take k a
