@@ -33,7 +33,8 @@ extern "C" {
  * SIZE, BOOK and NONE, whose place is 0. */
 enum {
     ADARBUKOI_SIZE = 1,     /* the dump is over 32,768 bytes */
-    ADARBUKOI_FRAME = 2,    /* a dump record is broken, missing, of the wrong kind, or a file or path length is not allowed */
+    ADARBUKOI_FRAME = 2,    /* a dump record is broken, missing, of the wrong kind, a file or path length is not allowed, or a
+                               record length of a record file runs over */
     ADARBUKOI_TAG = 3,      /* bad or cut-off tag form, or not the component due here, or one more than is due */
     ADARBUKOI_LENGTH = 4,   /* bad length form, cut off, or beyond its container */
     ADARBUKOI_MISSING = 5,  /* a container ends early; the place is its end */
@@ -47,7 +48,8 @@ enum {
     ADARBUKOI_TWICE = 13,   /* two authentication objects with equal own authId */
     ADARBUKOI_ROOM = 14,    /* the lent output is too short */
     ADARBUKOI_BOOK = 15,    /* no accepted dump has this book */
-    ADARBUKOI_NONE = 16     /* the object or field is not there */
+    ADARBUKOI_NONE = 16,    /* the object or field is not there */
+    ADARBUKOI_SECOND = 17   /* a record of a record file holds a second object */
 };
 
 /* Links: the first number of a row of the list. */

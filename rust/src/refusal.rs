@@ -1,9 +1,9 @@
-//! Refusals, with the words of document 01.
+//! Refusals, with the words of documents 01 and 02.
 
 use std::error::Error;
 use std::fmt;
 
-/// A refusal: its number, 1 to 16, and its place.
+/// A refusal: its number, 1 to 17, and its place.
 ///
 /// The place is an offset into the input, except for number 14, where it is the size needed
 /// (in bytes or, for the list, in numbers).
@@ -37,7 +37,11 @@ impl Error for Refusal {}
 fn words(number: u32) -> (&'static str, &'static str) {
     match number {
         1 => ("size", "dump over 32,768 bytes"),
-        2 => ("frame", "a dump record is broken, missing, of the wrong kind, or a file or path length is not allowed"),
+        2 => (
+            "frame",
+            "a dump record is broken, missing, of the wrong kind, a file or path length is not allowed, \
+             or a record length runs over",
+        ),
         3 => ("tag", "bad or cut-off tag form, or not the component due here, or one more than is due"),
         4 => ("length", "bad length form, cut off, or beyond its container"),
         5 => ("missing", "container ends early"),
@@ -52,6 +56,7 @@ fn words(number: u32) -> (&'static str, &'static str) {
         14 => ("room", "output too short, the place is the size needed"),
         15 => ("book", "no accepted dump has this book"),
         16 => ("none", "object or field not there"),
-        _ => ("unknown", "no refusal of document 01"),
+        17 => ("second", "a record holds a second object"),
+        _ => ("unknown", "no refusal of documents 01 and 02"),
     }
 }

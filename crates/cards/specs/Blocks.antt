@@ -60,10 +60,21 @@ entries-blocks : (xs : List (entries.item .Of)) → Blocks (flat card.inEntry xs
 entries-blocks [] = nothing
 entries-blocks (x ∷ xs) = append (entry-blocks x) (entries-blocks xs)
 
+directory-blocks : (t : ℕ) (x : card.directory t .Of) → Blocks (card.under t (x .0)) (flat (entries.object t .part .book) (x .0) ++ fill 0x0107 .book (x .1))
+directory-blocks t (objects, filling) = filled (objects-blocks t objects) filling
+
+records-blocks : (t : ℕ) (rs : card.linear t .Of) → Blocks (card.inRecords t rs) (flat (card.recordIn t .book) rs)
+records-blocks t [] = nothing
+records-blocks t (r ∷ rs) = append (other 0x011a [] tt (directory-blocks t r)) (records-blocks t rs)
+
+file-blocks : (n : Name) (x : card.file n .Of) → Blocks (card.inFile (n .tag) x) (card.file n .book x)
+file-blocks n (inl x) = other 0x0118 [] tt (directory-blocks (n .tag) x)
+file-blocks n (inr rs) = other 0x0119 [] tt (records-blocks (n .tag) rs)
+
 files-blocks : (ns : List Name) (x : card.files ns .Of) → Blocks (card.inFiles ns x) (card.files ns .book x)
 unfolding card.files card.inFiles
 files-blocks [] x = nothing
-files-blocks (n ∷ ns) ((objects, filling), x) = append (other 0x0118 [] tt (filled (objects-blocks (n .tag) objects) filling)) (files-blocks ns x)
+files-blocks (n ∷ ns) (f, x) = append (file-blocks n f) (files-blocks ns x)
 
 -- EF.OD's records and the files' are blocks of the card's objects, in turn
 pub card-blocks : (c : Card) → Blocks (objectsOf c) (card.od .book (c .main) ++ card.files (card.namesOf (c .main)) .book (c .dirs))

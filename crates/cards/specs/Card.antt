@@ -1,18 +1,19 @@
--- A card, in the order and the words of document 01: what may stand in it, its dump and its book. Nothing is read here.
+-- A card, in the order and the words of documents 01 and 02: what may stand in it, its dump and its book. Nothing is read here.
 use Prim.Native.Nat.{ℕ, zero, suc, _≤_}
 use mathlib.Core.Path.{_≡_}
 use mathlib.Core.List.{List, [], _∷_, _++_, map}
-use mathlib.Core.Logic.{inl, inr}
+use mathlib.Core.Logic.{_⊎_, inl, inr}
 use mathlib.Core.Option.{Option, none, some}
 use lib.ListN.{length}
 use Rattle.elements.specs.Record.{recordBytes}
 use Rattle.rules.specs.declared.table.Class.{Class}
 use Rattle.rules.specs.declared.table.Class.the-variants.{Keys, Certificates, Containers, Authentications}
 use Rattle.rules.specs.declared.table.Sort.the-variants.{Always, Identifier, Not, And, Or, Other}
-use Rattle.rules.specs.Reading.{Rec}
+use Rattle.rules.specs.Reading.{Rec, rec}
 use Rattle.rules.specs.Tables.{classOf}
 use Rattle.rules.specs.Files.{Name, paths}
-use Rattle.rules.specs.Grammar.{Part, empty, _and_, flat}
+use Rattle.rules.specs.Grammar as grammar
+use Rattle.rules.specs.Grammar.{Part, empty, _and_, many, oneOf, lengthed, flat}
 use Rattle.rules.specs.Conditions.{condition}
 use Rattle.rules.specs.Layouts as layouts
 use Rattle.rules.specs.Entries as entries
@@ -39,16 +40,28 @@ namesOf (list, fill) = flat nameIn list
 abbrev pub directory : ℕ → Part
 directory t = filing.directory t .part
 
+-- "A record holds one object or none, then fill": "a 2-byte length and its bytes"
+abbrev pub recordIn : ℕ → Part
+recordIn t = lengthed (filing.recordIn t .part)
+
+-- "The book opens such a file with 0119 instead of 0118": its records
+abbrev pub linear : ℕ → Part
+linear t = grammar.behind (many (recordIn t)) (λ _. rec 0x0119 [])
+
 -- "one byte of path length 1 to 64, path, directory file"; "A file is at most 16,383 bytes"
-abbrev pub file : Name → Part
-file n = record {
-  Of = directory (n .tag) .Of;
-  bytes = λ x. recordBytes 3 (length (n .path) ∷ n .path ++ directory (n .tag) .bytes x);
-  book = directory (n .tag) .book;
-  Meets = λ x. directory (n .tag) .Meets x × (1 ≤ length (n .path)) × (length (n .path) ≤ 64) × (length (directory (n .tag) .bytes x) ≤ 16383);
+abbrev pub named : ℕ → List ℕ → Part → Part
+named kind path P = record {
+  Of = P .Of;
+  bytes = λ x. recordBytes kind (length path ∷ path ++ P .bytes x);
+  book = P .book;
+  Meets = λ x. P .Meets x × (1 ≤ length path) × (length path ≤ 64) × (length (P .bytes x) ≤ 16383);
 }
 
--- "then records 0003, in the order of the EF.OD entries that name a path"
+-- a file is transparent, of kind 0003, or of records, of kind 0004
+abbrev pub file : Name → Part
+file n = oneOf (named 3 (n .path) (directory (n .tag))) (named 4 (n .path) (linear (n .tag)))
+
+-- "then records 0003" and 0004, "in the order of the EF.OD entries that name a path"
 unfoldable pub files : List Name → Part
 files [] = empty
 files (n ∷ ns) = file n and files ns
@@ -59,7 +72,7 @@ pub record Card : Type 0 where
   pub main : od .Of
   pub dirs : files (namesOf main) .Of
 
--- "one record of kind 0001 (CIAInfo), one 0002 (EF.OD), then records 0003"
+-- "one record of kind 0001 (CIAInfo), one 0002 (EF.OD), then records 0003" and 0004
 abbrev pub dumpOf : Card → List ℕ
 dumpOf c = recordBytes 1 (cia .bytes (c .info)) ++ (recordBytes 2 (od .bytes (c .main)) ++ files (namesOf (c .main)) .bytes (c .dirs))
 
@@ -101,10 +114,17 @@ inEntry (inl (t, inl path)) = []
 inEntry (inl (t, inr objects)) = under t objects
 inEntry (inr unknown) = []
 
+abbrev pub inRecords : (t : ℕ) → linear t .Of → List Object
+inRecords t records = flat (λ r. under t (r .0)) records
+
+abbrev pub inFile : (t : ℕ) → directory t .Of ⊎ linear t .Of → List Object
+inFile t (inl (objects, fill)) = under t objects
+inFile t (inr records) = inRecords t records
+
 unfoldable pub inFiles : (ns : List Name) → files ns .Of → List Object
 unfolding files
 inFiles [] x = []
-inFiles (n ∷ ns) ((objects, fill), x) = under (n .tag) objects ++ inFiles ns x
+inFiles (n ∷ ns) (f, x) = inFile (n .tag) f ++ inFiles ns x
 
 abbrev pub objectsOf : Card → List Object
 objectsOf c = flat inEntry (c .main .0) ++ inFiles (namesOf (c .main)) (c .dirs)

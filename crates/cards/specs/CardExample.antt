@@ -1,7 +1,7 @@
--- Document 01's shared case as a card: its dump and its book by computing.
+-- Document 01's shared case and a card with a record file, each as a card: its dump and its book by computing.
 use mathlib.Core.Path.{_≡_, refl}
 use mathlib.Core.List.{[], _∷_}
-use mathlib.Core.Logic.{inl}
+use mathlib.Core.Logic.{inl, inr}
 use mathlib.Core.Option.{none, some}
 use lib.Count.{leadingZeros}
 use Rattle.elements.specs.Length.{shortest, tagBytes}
@@ -10,12 +10,13 @@ use Rattle.elements.specs.Bits.{flagBytes, width, flagRun, reversed}
 use Rattle.elements.specs.Record.{recordBytes}
 use Rattle.rules.specs.Tables.{typeOf}
 use Rattle.rules.specs.Book.{encode}
-use Rattle.rules.specs.Grammar.{elementBytes}
+use Rattle.rules.specs.Grammar.{low, elementBytes}
 use Rattle.rules.specs.Layouts as layouts
 use Rattle.rules.specs.Entries as entries
 use Rattle.cards.specs.Card as card
 use Rattle.cards.specs.Card.{Card, dumpOf, bookOf}
 use Rattle.rules.specs.Examples.{shared, sharedBook}
+use Rattle.rules.specs.RecordFiles.{mixed, mixedBook}
 
 -- a private key: authId 01; iD 01, usage 4; path 4B01, modulus of 2,048 bits
 abbrev keyObject : entries.object 0xa0 .part .Of
@@ -32,7 +33,7 @@ unfolding card.files entries.object typeOf layouts.insides layouts.cia layouts.i
 sharedCard = record {
   info = (((1, (none, (none, (none, (0, tt))))), []), none);
   main = (inl (0xa0, inl (0x44 ∷ 0x01 ∷ [])) ∷ inl (0xa8, inl (0x44 ∷ 0x04 ∷ [])) ∷ [], none);
-  dirs = ((keyObject ∷ [], none), ((passwordObject ∷ [], none), tt));
+  dirs = (inl (keyObject ∷ [], none), (inl (passwordObject ∷ [], none), tt));
 }
 
 shared-dump : dumpOf sharedCard ≡ shared
@@ -42,3 +43,25 @@ shared-dump = refl
 shared-book : encode (bookOf sharedCard) ≡ sharedBook
 unfolding sharedCard card.files entries.object layouts.insides layouts.cia layouts.info typeOf encode recordBytes
 shared-book = refl
+
+-- a data container with nothing in it but its type, 05 00
+abbrev containerObject : entries.object 0xa7 .part .Of
+unfolding typeOf entries.object layouts.insides layouts.cia layouts.info
+containerObject = (0x30, ((((((none, (none, (none, (none, tt)))), none), []), []), none), low 0x05 []))
+
+-- a file of four records (an object with fill FF, none, fill 00 alone, an object) and a transparent one with fill alone
+unfoldable mixedCard : Card
+unfolding card.files entries.object typeOf layouts.insides layouts.cia layouts.info
+mixedCard = record {
+  info = (((1, (none, (none, (none, (0, tt))))), []), none);
+  main = (inl (0xa7, inl (0x44 ∷ [])) ∷ inl (0xa8, inl (0x45 ∷ [])) ∷ [], none);
+  dirs = (inr ((containerObject ∷ [], some (0xff, 2)) ∷ ([], none) ∷ ([], some (0x00, 2)) ∷ (containerObject ∷ [], none) ∷ []), (inl ([], some (0xff, 1)), tt));
+}
+
+mixed-dump : dumpOf mixedCard ≡ mixed
+unfolding mixedCard card.files entries.object layouts.insides layouts.cia layouts.info typeOf elementBytes tagBytes shortest integerBytes spread spreadBy flagBytes width flagRun reversed leadingZeros recordBytes
+mixed-dump = refl
+
+mixed-book : encode (bookOf mixedCard) ≡ mixedBook
+unfolding mixedCard card.files entries.object layouts.insides layouts.cia layouts.info typeOf encode recordBytes elementBytes tagBytes shortest
+mixed-book = refl

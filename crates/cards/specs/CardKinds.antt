@@ -180,7 +180,7 @@ fill-pays k kind e none = refl
 fill-pays k kind e (some (b, n)) = rw e refl
 
 -- of a kind that stands in objects alone, from what is known of each object
-module _ (k : ℕ) (g : Object → List (List ℕ)) (h : (o : Object) → pays k (recordsOf o) ≡ g o) (a : eqb 0x0110 k ≡ false) (b : eqb 0x0107 k ≡ false) (c : eqb 0x0118 k ≡ false) where
+module _ (k : ℕ) (g : Object → List (List ℕ)) (h : (o : Object) → pays k (recordsOf o) ≡ g o) (a : eqb 0x0110 k ≡ false) (b : eqb 0x0107 k ≡ false) (c : (eqb 0x0118 k ≡ false) × (eqb 0x0119 k ≡ false) × (eqb 0x011a k ≡ false)) where
   objects-pays : (t : ℕ) (os : List (entries.object t .part .Of)) → pays k (flat (entries.object t .part .book) os) ≡ flat g (card.under t os)
   objects-pays t os = pays-flat k (entries.object t .part .book) (λ o. g (t, o)) (λ o. h (t, o)) os ∙ sym (under-flat t g os)
 
@@ -195,14 +195,29 @@ module _ (k : ℕ) (g : Object → List (List ℕ)) (h : (o : Object) → pays k
   entries-pays [] = refl
   entries-pays (x ∷ xs) = pays-append k (entries.item .book x) (flat (entries.item .book) xs) ∙ rw (entry-pays x, entries-pays xs) (sym (flat-append g (card.inEntry x) (flat card.inEntry xs)))
 
+  -- objects with their fill, in a file or in a record
+  held-pays : (t : ℕ) (x : card.directory t .Of) → pays k (flat (entries.object t .part .book) (x .0) ++ fill 0x0107 .book (x .1)) ≡ flat g (card.under t (x .0))
+  held-pays t (objects, filling) =
+      let d = flat (entries.object t .part .book) objects in
+      let e = fill 0x0107 .book filling in
+      pays-append k d e ∙ rw (objects-pays t objects, fill-pays k 0x0107 b filling) (append-nil (flat g (card.under t objects)))
+
+  records-pays : (t : ℕ) (rs : card.linear t .Of) → pays k (flat (card.recordIn t .book) rs) ≡ flat g (card.inRecords t rs)
+  unfolding pays
+  records-pays t [] = refl
+  records-pays t (r ∷ rs) =
+      let d = flat (entries.object t .part .book) (r .0) ++ fill 0x0107 .book (r .1) in
+      rw (c .2) (pays-append k d (flat (card.recordIn t .book) rs) ∙ rw (held-pays t r, records-pays t rs) (sym (flat-append g (card.under t (r .0)) (card.inRecords t rs))))
+
+  file-pays : (n : Name) (x : card.file n .Of) → pays k (card.file n .book x) ≡ flat g (card.inFile (n .tag) x)
+  unfolding pays
+  file-pays n (inl x) = rw (c .0) (held-pays (n .tag) x)
+  file-pays n (inr rs) = rw (c .1) (records-pays (n .tag) rs)
+
   files-pays : (ns : List Name) (x : card.files ns .Of) → pays k (card.files ns .book x) ≡ flat g (card.inFiles ns x)
   unfolding pays card.files card.inFiles
   files-pays [] x = refl
-  files-pays (n ∷ ns) ((objects, filling), x) =
-      let d = flat (entries.object (n .tag) .part .book) objects in
-      let e = fill 0x0107 .book filling in
-      rw c (pays-append k (d ++ e) (card.files ns .book x) ∙
-      rw (pays-append k d e, objects-pays (n .tag) objects, fill-pays k 0x0107 b filling, append-nil (flat g (card.under (n .tag) objects)), files-pays ns x) (sym (flat-append g (card.under (n .tag) objects) (card.inFiles ns x))))
+  files-pays (n ∷ ns) (f, x) = pays-append k (card.file n .book f) (card.files ns .book x) ∙ rw (file-pays n f, files-pays ns x) (sym (flat-append g (card.inFile (n .tag) f) (card.inFiles ns x)))
 
   pub card-pays : (o : card.od .Of) (ns : List Name) (x : card.files ns .Of) → pays k (card.od .book o ++ card.files ns .book x) ≡ flat g (flat card.inEntry (o .0) ++ card.inFiles ns x)
   card-pays (xs, filling) ns x =
@@ -213,7 +228,7 @@ module _ (k : ℕ) (g : Object → List (List ℕ)) (h : (o : Object) → pays k
 
 -- the own identifiers of a card's objects are the payloads of its book's 0150
 pub card-ids : (o : card.od .Of) (ns : List Name) (x : card.files ns .Of) → pays (ownIdRow .kind) (card.od .book o ++ card.files ns .book x) ≡ flat card.ownId (flat card.inEntry (o .0) ++ card.inFiles ns x)
-card-ids = card-pays (ownIdRow .kind) card.ownId own-pays refl refl refl
+card-ids = card-pays (ownIdRow .kind) card.ownId own-pays refl refl (refl, refl, refl)
 
 -- ---- 0110 stands in no object
 path-elsewhere : Elsewhere 0x0110

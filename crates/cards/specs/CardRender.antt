@@ -2,24 +2,24 @@
 use Prim.Native.Nat.{ℕ, _-_, _*_, _%_, _≤_}
 use mathlib.Core.Path.{_≡_, refl, ap, _∙_, subst}
 use mathlib.Core.List.{List, [], _∷_, _++_, append-nil}
-use mathlib.Core.Bool.{Bool, true}
+use mathlib.Core.Bool.{Bool, true, false}
 use native.Mathlib.Omega.{arith}
 use lib.ListN.{length, length-append}
 use lib.Seq.{take-at}
 use lib.Dec.{leb, T, leb→le}
 use Rattle.elements.specs.Record.{recordBytes}
-use Rattle.rules.specs.Reading.{Rec}
+use Rattle.rules.specs.Reading.{Rec, rec}
 use Rattle.rules.specs.Files as files
 use Rattle.rules.specs.Files.{Name}
-use Rattle.rules.specs.Looks.{Look, look, elemLook, seqLook}
+use Rattle.rules.specs.Looks.{Look, look, elemLook, joinLook, seqLook}
 use Rattle.rules.specs.LookLaws.{Fresh, Begins, size, Laid, avoids, begins-fresh}
 use Rattle.rules.specs.Rendering.{Renderer, gives, nothing, _next_}
-use Rattle.rules.specs.RenderLaws.{Renders, told, and-renders, none-renders, weaken}
+use Rattle.rules.specs.RenderLaws.{Renders, told, and-renders, none-renders, lengthed-renders, many-renders, one-of-renders, behind-renders, weaken}
 use Rattle.rules.specs.Grammar.{Part, empty, _and_}
 use Rattle.rules.specs.Layouts as layouts
 use Rattle.rules.specs.Entries as entries
 use Rattle.rules.specs.FileLayouts as filing
-use Rattle.rules.specs.Render.{rCia, rOd, rDirectory, rDirectories, framing, used, render}
+use Rattle.rules.specs.Render.{rCia, rOd, rDirectory, rRecordIn, rLinear, rNamed, rFile, rDirectories, framing, used, render}
 use Rattle.cards.specs.Card as card
 use Rattle.cards.specs.CardKinds.{od-names}
 use Rattle.cards.specs.Card.{Card, Meets, dumpOf, bookOf}
@@ -60,44 +60,60 @@ directory-renders : (t : ℕ) → Renders (card.directory t) rDirectory (filing.
 unfolding rDirectory entries.object
 directory-renders t = filing.directory t .lawful (filing.directory-fine t) .renders
 
--- the same in its record, behind its path
-abbrev rFile : Name → Renderer
-rFile n = rFramed 3 (length (n .path) % 256 ∷ n .path) rDirectory
+-- a record of a record file: its length pays for its 011A and for its fill
+record-renders : (t : ℕ) → Renders (card.recordIn t) rRecordIn (elemLook (filing.recordIn 0 .kinds))
+unfolding rRecordIn entries.object layouts.insides
+record-renders t = lengthed-renders tt (filing.recordIn t .lawful (filing.record-fine t) .renders)
 
--- a path is too short for its length to wrap
-file-renders : (n : Name) → Renders (card.file n) (rFile n) (elemLook (filing.directory 0 .kinds))
-unfolding entries.object
-file-renders n =
-    let front = length (n .path) ∷ n .path in
-    let r : Renders (framed 3 front (card.directory (n .tag))) (rFramed 3 front rDirectory) (elemLook (filing.directory 0 .kinds)) = framed-renders 3 front tt (directory-renders (n .tag)) in
+-- a record file
+abbrev linearLook : Look
+linearLook = look (0x0119 ∷ []) false (0x011a ∷ filing.recordIn 0 .kinds .stop) 4
+
+linear-renders : (t : ℕ) → Renders (card.linear t) rLinear linearLook
+unfolding rLinear entries.object layouts.insides
+linear-renders t = behind-renders (rec 0x0119 []) tt tt (many-renders tt (record-renders t))
+
+-- a file in its record, behind its path: a path is too short for its length to wrap
+named-renders : (kind : ℕ) (path : List ℕ) {P : Part} {q : Renderer} {L : Look} → T (leb (L .credit) 16) → Renders P q L → Renders (card.named kind path P) (rNamed kind path q) (elemLook L)
+named-renders kind path {P} {q} {L} t f =
+    let front = length path ∷ path in
+    let r : Renders (framed kind front P) (rFramed kind front q) (elemLook L) = framed-renders kind front t f in
     record {
-      renders = λ x m w h. let short : length (n .path) % 256 ≡ length (n .path) = omega (arith, m .2) in rw short (r .renders x (m .0) w h);
+      renders = λ x m w h. let short : length path % 256 ≡ length path = omega (arith, m .2) in rw short (r .renders x (m .0) w h);
       begins = λ x m. r .begins x (m .0);
       bound = λ x m. r .bound x (m .0);
       laid = λ x m. r .laid x (m .0);
       tells = λ x y mx my. r .tells x y (mx .0) (my .0);
     }
 
--- the files' records begin with 0118, or there are none
+-- of either kind
+abbrev fileLook : Look
+fileLook = joinLook (elemLook (filing.directory 0 .kinds)) (elemLook linearLook)
+
+file-renders : (n : Name) → Renders (card.file n) (rFile (n .path)) fileLook
+unfolding rFile entries.object layouts.insides
+file-renders n = one-of-renders (named-renders 3 (n .path) tt (directory-renders (n .tag))) (named-renders 4 (n .path) tt (linear-renders (n .tag))) tt tt tt
+
+-- the files' records begin with 0118 or 0119, or there are none
 abbrev pub filesLook : Look
-filesLook = look (0x0118 ∷ []) true (filing.directory 0 .kinds .stop) 0
+filesLook = look (0x0118 ∷ 0x0119 ∷ []) true (fileLook .stop) 0
 
 -- the files in turn
 abbrev pub rFiles : List Name → Renderer
 rFiles [] = nothing
-rFiles (n ∷ ns) = rFile n next rFiles ns
+rFiles (n ∷ ns) = rFile (n .path) next rFiles ns
 
--- their records begin with 0118, are not too long, fit a book, and tell their data
+-- their records begin with 0118 or 0119, are not too long, fit a book, and tell their data
 pub files-renders : (ns : List Name) → Renders (card.files ns) (rFiles ns) filesLook
 unfolding card.files entries.object layouts.insides
 files-renders [] = weaken {P = empty} (look [] true [] 0) filesLook tt none-renders
-files-renders (n ∷ ns) = weaken {P = card.file n and card.files ns} (seqLook (elemLook (filing.directory 0 .kinds)) filesLook) filesLook tt (and-renders {P = card.file n} {Q = card.files ns} (file-renders n) (files-renders ns) tt)
+files-renders (n ∷ ns) = weaken {P = card.file n and card.files ns} (seqLook fileLook filesLook) filesLook tt (and-renders {P = card.file n} {Q = card.files ns} (file-renders n) (files-renders ns) tt)
 
 -- which is how a dump's files are rendered
 directories-is : (ns : List Name) (rs : List Rec) → rDirectories ns rs ≡ rFiles ns rs .bytes
 unfolding rDirectories
 directories-is [] rs = refl
-directories-is (n ∷ ns) rs = rw (directories-is ns (rDirectory rs .left)) refl
+directories-is (n ∷ ns) rs = rw (directories-is ns (rFile (n .path) rs .left)) refl
 
 -- the records of the files give their bytes
 pub files-rendered : (ns : List Name) (x : card.files ns .Of) → card.files ns .Meets x → rDirectories ns (card.files ns .book x) ≡ card.files ns .bytes x

@@ -26,7 +26,8 @@ use Rattle.cards.specs.CardKinds.{od-names, card-ids}
 use Rattle.rules.specs.Pays.{idsOf}
 use Rattle.cards.specs.OnceLaws.{New, apart-none, once-sound, once-complete, entry-place, IdsRead, again, new, ids-sound, ids-complete}
 use Rattle.cards.specs.FrameLaws.{Frame, by-frame, held, frame-held, Chain, ChainReads, no-chain, chain, chain-sound, Follows, FollowReads, no-follow, follows, follow-sound}
-use Rattle.cards.specs.DirectoryLaws.{cia-law, od-law, all-of, DirReads, no-dir, dirs, dirs-sound, dirs-complete}
+use Rattle.cards.specs.PartLaws.{cia-law, od-law, all-of}
+use Rattle.cards.specs.DirectoryLaws.{DirReads, no-dir, dirs, dirs-sound, dirs-complete}
 pub use Rattle.cards.specs.DirectoryLaws.{DirFacts, dirs-read}
 
 -- what reading a dump comes to

@@ -4,6 +4,8 @@ pub mod CardRender
 pub mod Blocks
 pub mod OnceLaws
 pub mod FrameLaws
+pub mod PartLaws
+pub mod RecordLaws
 pub mod DirectoryLaws
 pub mod DumpLaws
 pub mod WriteLaws

@@ -1,7 +1,7 @@
--- The number that document 01 gives each fault.
+-- The number that documents 01 and 02 give each fault.
 use Prim.Native.Nat.{ℕ}
 use Rattle.elements.specs.declared.fault.Fault.{Fault}
-use Rattle.elements.specs.declared.fault.Fault.the-variants.{DumpSize, RecordBroken, RecordMissing, RecordKind, FileLength, PathLength, BadTag, CutTag, NotDue, OneMore, BadLength, CutLength, LongLength, Missing, BadBoolean, BadInteger, BadBits, TrailingBits, BadText, BadTime, BadNull, DefaultWritten, OutOfRange, BadSize, ManyBits, ManyConditions, PathPair, PasswordFlags, TooDeep, ManyObjects, FillDiffers, PathTwice, FileDiffers, FileMissing, FileExtra, AuthIdTwice, NoRoom, NoDump, NotThere}
+use Rattle.elements.specs.declared.fault.Fault.the-variants.{DumpSize, RecordBroken, RecordMissing, RecordKind, FileLength, PathLength, RecordOver, BadTag, CutTag, NotDue, OneMore, BadLength, CutLength, LongLength, Missing, BadBoolean, BadInteger, BadBits, TrailingBits, BadText, BadTime, BadNull, DefaultWritten, OutOfRange, BadSize, ManyBits, ManyConditions, PathPair, PasswordFlags, TooDeep, ManyObjects, FillDiffers, PathTwice, FileDiffers, FileMissing, FileExtra, AuthIdTwice, NoRoom, NoDump, NotThere, SecondObject}
 
 abbrev pub numberOf : Fault → ℕ
 numberOf DumpSize = 1
@@ -10,6 +10,7 @@ numberOf RecordMissing = 2
 numberOf RecordKind = 2
 numberOf FileLength = 2
 numberOf PathLength = 2
+numberOf RecordOver = 2
 numberOf BadTag = 3
 numberOf CutTag = 3
 numberOf NotDue = 3
@@ -43,3 +44,4 @@ numberOf AuthIdTwice = 13
 numberOf NoRoom = 14
 numberOf NoDump = 15
 numberOf NotThere = 16
+numberOf SecondObject = 17

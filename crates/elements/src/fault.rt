@@ -1,16 +1,17 @@
 ghost use mathlib.Core.Path.{_≡_};
 ghost use Rattle.elements.specs.Faults.{numberOf};
 
-// Why an input is refused: a name for each reason that document 01 gives, in the order of its numbers.
+// Why an input is refused: a name for each reason that documents 01 and 02 give, in the order of their numbers.
 pub enum Fault {
     // 1: the dump is over 32,768 bytes
     DumpSize,
-    // 2: a dump record is broken, missing, of the wrong kind, or a file or path length is not allowed
+    // 2: a dump record is broken, missing, of the wrong kind, or a file or path length is not allowed; a record length that runs over
     RecordBroken,
     RecordMissing,
     RecordKind,
     FileLength,
     PathLength,
+    RecordOver,
     // 3: bad tag form, cut-off tag, not the component due here, one more than is due
     BadTag,
     CutTag,
@@ -58,9 +59,11 @@ pub enum Fault {
     NoDump,
     // 16: object or field not there
     NotThere,
+    // 17: a record holds a second object
+    SecondObject,
 }
 
-// The number that document 01 gives a fault.
+// The number that the documents give a fault.
 pub fn number_of(f: Fault) -> u32
     ensures { λ r. ⌜ r ≡ numberOf f ⌝ }
 {
@@ -71,6 +74,7 @@ pub fn number_of(f: Fault) -> u32
         Fault::RecordKind => 2,
         Fault::FileLength => 2,
         Fault::PathLength => 2,
+        Fault::RecordOver => 2,
         Fault::BadTag => 3,
         Fault::CutTag => 3,
         Fault::NotDue => 3,
@@ -104,5 +108,6 @@ pub fn number_of(f: Fault) -> u32
         Fault::NoRoom => 14,
         Fault::NoDump => 15,
         Fault::NotThere => 16,
+        Fault::SecondObject => 17,
     }
 }

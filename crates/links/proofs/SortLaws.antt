@@ -10,14 +10,21 @@ use Rattle.rules.specs.Blocks.{closing}
 use Rattle.links.specs.Links.{certifying, states, answering, idKind}
 
 -- a record that ends an object's, and one that does not
-pub closing-is : (k : ℕ) → (k ≡ 0x0107) ⊎ ((k ≡ 0x0110) ⊎ ((k ≡ 0x0118) ⊎ (k ≡ 0x0120))) → true ≡ closing k
-closing-is k (inl e) = rw e refl
-closing-is k (inr (inl e)) = rw e refl
-closing-is k (inr (inr (inl e))) = rw e refl
-closing-is k (inr (inr (inr e))) = rw e refl
+module _ (k : ℕ) where
+  pub closing-inner : (k ≡ 0x0107) ⊎ ((k ≡ 0x0110) ⊎ (k ≡ 0x0120)) → true ≡ closing k
+  closing-inner (inl e) = rw e refl
+  closing-inner (inr (inl e)) = rw e refl
+  closing-inner (inr (inr e)) = rw e refl
 
-pub closing-not : (k : ℕ) → ((k ≡ 0x0107) ⊎ ((k ≡ 0x0110) ⊎ ((k ≡ 0x0118) ⊎ (k ≡ 0x0120))) → ⊥) → false ≡ closing k
-closing-not k n = rw (ne-eqb k 0x0120 (λ e. n (inr (inr (inr e)))), ne-eqb k 0x0110 (λ e. n (inr (inl e))), ne-eqb k 0x0107 (λ e. n (inl e)), ne-eqb k 0x0118 (λ e. n (inr (inr (inl e))))) refl
+  pub closing-opened : (k ≡ 0x0118) ⊎ (k ≡ 0x011a) → true ≡ closing k
+  closing-opened (inl e) = rw e refl
+  closing-opened (inr e) = rw e refl
+
+  pub closing-linear : k ≡ 0x0119 → true ≡ closing k
+  closing-linear e = rw e refl
+
+  pub closing-not : ((k ≡ 0x0107) ⊎ ((k ≡ 0x0110) ⊎ (k ≡ 0x0120)) → ⊥) → ((k ≡ 0x0118) ⊎ (k ≡ 0x011a) → ⊥) → (k ≡ 0x0119 → ⊥) → false ≡ closing k
+  closing-not n m l = rw (ne-eqb k 0x0120 (λ e. n (inr (inr e))), ne-eqb k 0x0110 (λ e. n (inr (inl e))), ne-eqb k 0x0107 (λ e. n (inl e)), ne-eqb k 0x0118 (λ e. m (inl e)), ne-eqb k 0x0119 l, ne-eqb k 0x011a (λ e. m (inr e))) refl
 
 -- the link that a record states
 module _ (entry : ℕ) {kind : ℕ} where

@@ -30,7 +30,7 @@ pub record Object : Type 0 where
 abbrev pub past : ℕ → Rec → ℕ
 past at r = at + 4 + length (r .pay)
 
--- an object's records reach "up to the next 0120, 0110, 0107, 0118 or the end"
+-- an object's records reach up to the next record that closes it, or the end
 unfoldable pub heldFrom : ℕ → List Rec → List Held
 heldFrom at [] = []
 heldFrom at (r ∷ rs) = choose (closing (r .kind)) (λ _. []) (λ _. held at (r .kind) (r .pay) ∷ heldFrom (past at r) rs)

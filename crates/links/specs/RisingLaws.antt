@@ -8,6 +8,7 @@ use native.Mathlib.Omega.{arith}
 use lib.ListN.{getD}
 use lib.Dec.{eqb}
 use Rattle.elements.specs.Choice.{choose}
+use Rattle.elements.specs.Sealed.{among}
 use Rattle.rules.specs.Reading.{Rec}
 use Rattle.rules.specs.Blocks.{closing}
 use Rattle.links.specs.Links.{Held, held, Object, past, heldFrom, objectsFrom, objectsOf, states, bears, answers, by, Row, row, rowsOf, recordRows, objectRows, linksFrom, links, Before, Rises}
@@ -62,7 +63,7 @@ replies-rise l i p (j ∷ js) c = rows-rise l i p (j ∷ js) c
 
 -- a record that closes nothing starts no object
 pub not-closing : (k : ℕ) → closing k ≡ false → eqb k 0x0120 ≡ false
-not-closing k e = go (eqb k 0x0120) (eqb k 0x0110 || (eqb k 0x0107 || eqb k 0x0118)) e
+not-closing k e = go (eqb k 0x0120) (among k (0x0110 ∷ 0x0107 ∷ 0x0118 ∷ 0x0119 ∷ 0x011a ∷ [])) e
   where
     go : (t u : Bool) → (t || u) ≡ false → t ≡ false
     go true u z = absurd (true≢false z)

@@ -8,7 +8,11 @@ pub fn is_closing(kind: usize) -> bool
     ensures { λ r. ⌜ r ≡ closing kind ⌝ }
 {
     match kind {
-        0x0107 | 0x0110 | 0x0118 | 0x0120 => true,
+        // fill, an entry, an object
+        0x0107 | 0x0110 | 0x0120 => true,
+        // a transparent file, a record; a record file
+        0x0118 | 0x011a => true,
+        0x0119 => true,
         _ => false,
     }
 }

@@ -13,16 +13,17 @@ use Rattle.reader.specs.declared.frame.Framed.the-variants as file
 use Rattle.reader.specs.declared.frame.Framed.{Framed}
 use Rattle.rules.specs.Reading.{Rec, Res, took, fails, also}
 use Rattle.rules.specs.Parts.{counted}
-use Rattle.rules.specs.Files.{Name, File, framed, files, frames, namedFrame, namesOf, two, directory, directories}
+use Rattle.rules.specs.Files.{Name, File, framed, files, frames, namedFrame, namesOf, two, fileOf, directories}
+use Rattle.cards.specs.FrameLaws.{Sorted}
 use Rattle.rules.specs.Book.{encode}
-use Rattle.reader.specs.Filing.{DidObjects, fellObjects}
+use Rattle.reader.specs.Filing.{DidObjects, fellObjects, byKind}
 use Rattle.reader.specs.Scan.{Lies, Holds, NextName, last, found, NameTold}
 use Rattle.reader.specs.Frame.{framedAs, Path}
 use Rattle.reader.specs.Twelve.{Sound}
 use Rattle.reader.specs.Directories.{didFiles, fellFiles, FilesTold}
 use Rattle.objects.specs.DidLaws.{encode-append}
 use Rattle.objects.specs.ComponentsLaws.{also-none, also-also}
-use Rattle.reader.proofs.EntryLaws.{objects-open, objects-small, objects-high, objects-few, objects-same, objects-kept}
+use Rattle.reader.proofs.ObjectsLaws.{objects-open, objects-small, objects-high, objects-few, objects-same, objects-kept}
 use Rattle.reader.proofs.LiesLaws.{lie-same, put-lies}
 use Rattle.reader.proofs.FrameLaws.{chain-more, chain-end, is-framed}
 use Rattle.reader.proofs.TwelveLaws.{chain-same}
@@ -31,10 +32,10 @@ counted-took : (w : Res) (g : ℕ → ℕ → Res) {bs : List Rec} {ms : List �
 counted-took w g e = rw e refl
 
 -- one file more
-one-file : (s : List ℕ) (ns names : List Name) (nm : Name) (rest fs : List File) (f : File) (c t a e : ℕ) → ns ≡ nm ∷ names → rest ≡ f ∷ fs → nm .tag ≡ t → f .start ≡ a → f .stop ≡ e →
-    directories s ns rest c ≡ counted (directory s t c e a) (λ y _. directories s names fs (c + y))
-unfolding directories
-one-file s ns names nm rest fs f c t a e x y z u v = rw (x, y, ← z, ← u, ← v) refl
+one-file : (s : List ℕ) (ns names : List Name) (nm : Name) (rest fs : List File) (f : File) (c t k a e : ℕ) → ns ≡ nm ∷ names → rest ≡ f ∷ fs → nm .tag ≡ t → f .kind ≡ k → f .start ≡ a → f .stop ≡ e →
+    directories s ns rest c ≡ counted (byKind s k t c e a) (λ y _. directories s names fs (c + y))
+unfolding directories fileOf
+one-file s ns names nm rest fs f c t k a e x y z w u v = rw (x, y, ← z, ← w, ← u, ← v) refl
 
 -- the names from the record at j on, and the files from n on, are still to come; before them ds and ns were put
 pub record Turning (s : List ℕ) (at : ℕ) (a b u v : List ℕ) (i end o k j n p c : ℕ) : Type 0 where
@@ -138,13 +139,20 @@ module _ {s : List ℕ} {at : ℕ} {a b u v : List ℕ} {i end o k j n p c : ℕ
           let q : framed (w .0) ≡ framedAs n (file.Broken _ _) = rw z at y in
           let t : _≡_ {A = ℕ} 0 1 = cc in omega arith
 
-      module _ {x a′ e′ : ℕ} (z : r ≡ file.File x a′ e′) {b′ v′ : List ℕ} {w : Many} (d : DidObjects b b′ v v′ p a′ e′ c (directory s (getD b (j + 4) 0) c e′ a′) w) where
+      -- the file's kind, and its records if it is of records
+      pub turning-sorted : {g′ x a′ e′ : ℕ} → r ≡ file.File g′ x a′ e′ → Sorted s g′ e′ a′
+      turning-sorted {g′} {x} {a′} {e′} z =
+          let f = chain-more s (h .turns) n (h .rest) m (h .chain) in
+          let i = is-framed n r (f .0) (sym (f .4) ∙ e) z in
+          rw (i .0, i .2, i .3) at (f .6)
+
+      module _ {g′ x a′ e′ : ℕ} (z : r ≡ file.File g′ x a′ e′) {b′ v′ : List ℕ} {w : Many} (d : DidObjects b b′ v v′ p a′ e′ c (byKind s g′ (getD b (j + 4) 0) c e′ a′) w) where
         -- what is to be done now
         pub record Stepped : Type 0 where
           pub left : List Rec
           pub after : List File
           pub fuel : ℕ
-          pub is : directories s (namesOf (h .now)) (h .rest) c ≡ counted (directory s (getD b (j + 4) 0) c e′ a′) (λ y _. directories s (namesOf left) after (c + y))
+          pub is : directories s (namesOf (h .now)) (h .rest) c ≡ counted (byKind s g′ (getD b (j + 4) 0) c e′ a′) (λ y _. directories s (namesOf left) after (c + y))
           pub goes : frames s fuel e′ ≡ files after
           pub lies : Lies b (j + 2 + two b j) end left
 
@@ -156,7 +164,7 @@ module _ {s : List ℕ} {at : ℕ} {a b u v : List ℕ} {i end o k j n p c : ℕ
             go (found nm left q _ t _ _ y) =
                 let f = chain-more s (h .turns) n (h .rest) m (h .chain) in
                 let i = is-framed n r (f .0) (sym (f .4) ∙ e) z in
-                record { left = left; after = f .1; fuel = f .2; is = one-file s (namesOf (h .now)) (namesOf left) nm (h .rest) (f .1) (f .0) c (getD b (j + 4) 0) a′ e′ q (f .3) t (i .1) (i .2); goes = rw (i .2) at (f .5); lies = y }
+                record { left = left; after = f .1; fuel = f .2; is = one-file s (namesOf (h .now)) (namesOf left) nm (h .rest) (f .1) (f .0) c (getD b (j + 4) 0) g′ a′ e′ q (f .3) t (i .0) (i .2) (i .3); goes = rw (i .3) at (f .5); lies = y }
 
         pub turning-fell : {f : Fault} {y : ℕ} → w ≡ many.Fails f y → FilesTold s at a b′ u v′ i end o k (many.Fails f y)
         turning-fell {f} {y} q =
@@ -188,7 +196,7 @@ module _ {s : List ℕ} {at : ℕ} {a b u v : List ℕ} {i end o k j n p c : ℕ
                 put = put-then (h .put) (x′ .3) (sym (encode-append (h .ds) (x′ .0)));
                 marks = put-put (h .marks) (x′ .4);
                 whole = λ rs fs l′ m′ n′.
-                    let one : directories s (namesOf (h .now)) (h .rest) c ≡ also (x′ .0) (x′ .1) (directories s (namesOf (t .left)) (t .after) c′) = t .is ∙ counted-took (directory s (getD b (j + 4) 0) c e′ a′) (λ y _. directories s (namesOf (t .left)) (t .after) (c + y)) (x′ .2) ∙ ap (λ (y : ℕ). also (x′ .0) (x′ .1) (directories s (namesOf (t .left)) (t .after) y)) cnt in
+                    let one : directories s (namesOf (h .now)) (h .rest) c ≡ also (x′ .0) (x′ .1) (directories s (namesOf (t .left)) (t .after) c′) = t .is ∙ counted-took (byKind s g′ (getD b (j + 4) 0) c e′ a′) (λ y _. directories s (namesOf (t .left)) (t .after) (c + y)) (x′ .2) ∙ ap (λ (y : ℕ). also (x′ .0) (x′ .1) (directories s (namesOf (t .left)) (t .after) y)) cnt in
                     sym (also-also (h .ds) (x′ .0) (h .ns) (x′ .1) (directories s (namesOf (t .left)) (t .after) c′)) ∙ ap (also (h .ds) (h .ns)) (sym one) ∙ h .whole rs fs l′ m′ n′;
                 high = hi;
                 room = omega (arith, objects-small d g, objects-high d g);
@@ -199,18 +207,18 @@ module _ {s : List ℕ} {at : ℕ} {a b u v : List ℕ} {i end o k j n p c : ℕ
               }
 
 -- where a file lies
-module _ {s : List ℕ} {n : ℕ} {r : Framed} (h : Path s n r) {x a e : ℕ} (z : r ≡ file.File x a e) where
+module _ {s : List ℕ} {n : ℕ} {r : Framed} (h : Path s n r) {k x a e : ℕ} (z : r ≡ file.File k x a e) where
   pub file-mid : a ≤ e
-  file-mid = h .is x a e z .2
+  file-mid = h .is k x a e z .2
 
   pub file-high : e ≤ length s
-  file-high = h .is x a e z .3
+  file-high = h .is k x a e z .3
 
   pub file-room : {p : ℕ} → p ≤ 8 * n → p + 4 ≤ 8 * a
-  file-room l = omega (arith, h .is x a e z)
+  file-room l = omega (arith, h .is k x a e z)
 
   pub file-place : {p : ℕ} → p ≤ 8 * n → p ≤ 8 * a
-  file-place l = omega (arith, h .is x a e z)
+  file-place l = omega (arith, h .is k x a e z)
 
   pub file-less : n < length s → length s - e < length s - n
-  file-less l = omega (arith, h .is x a e z)
+  file-less l = omega (arith, h .is k x a e z)

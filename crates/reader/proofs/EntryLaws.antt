@@ -1,14 +1,13 @@
--- Objects with their places, and EF.OD's entries.
-use Rattle.rules.specs.Entries as entries
-use Prim.Native.Nat.{ℕ, zero, suc, _+_, _-_, _*_, _<_, _≤_}
+-- EF.OD's entries.
+use Prim.Native.Nat.{ℕ, _+_, _-_, _*_, _<_, _≤_}
 use mathlib.Core.Path.{_≡_, refl, sym, ap, _∙_}
-use mathlib.Core.Bool.{Bool, true, false, not, _&&_, _||_}
+use mathlib.Core.Bool.{Bool, true, false, not, _&&_}
 use mathlib.Core.List.{List, [], _∷_, _++_, append-nil}
 use native.Mathlib.Omega.{arith}
-use lib.ListN.{length, getD}
+use lib.ListN.{length}
 use lib.Seq.{slice}
 use lib.Dec.{leb, eqb, ltb}
-use borrow.Author.Tests.{ne-eqb, le-leb, lt-leb, ltb-true, leb-true}
+use borrow.Author.Tests.{ne-eqb, le-leb, lt-leb, leb-true}
 use Rattle.elements.specs.declared.fault.Fault.{Fault}
 use Rattle.elements.specs.declared.fault.Fault.the-variants.{BadSize, NotDue}
 use Rattle.elements.specs.declared.answer.Head.{Head}
@@ -20,7 +19,7 @@ use Rattle.elements.specs.Header.{header}
 use Rattle.elements.specs.Lists.{Bytes}
 use Rattle.elements.specs.HeaderLaws.{header-in}
 use Rattle.elements.specs.Put.{Put}
-use Rattle.elements.specs.PutLaws.{put-none, put-put, put-then, put-length}
+use Rattle.elements.specs.PutLaws.{put-none, put-put}
 use Rattle.elements.specs.Record.{recordBytes}
 use Rattle.objects.specs.declared.part.Part.{Part}
 use Rattle.objects.specs.declared.part.Part.the-variants.{Took, Fails}
@@ -30,229 +29,23 @@ use Rattle.reader.specs.declared.answer.Entries.{Entries}
 use Rattle.reader.specs.declared.answer.Entries.the-variants as list
 use Rattle.reader.specs.declared.scan.Key.the-variants.{Path}
 use Rattle.rules.specs.declared.table.Need.the-variants.{Required}
-use Rattle.rules.specs.Reading.{Rec, rec, Res, took, fails, also, andThen, _then_, Reader, Body}
-use Rattle.rules.specs.Parts.{repeat, toEnd, element, whatever, component, due, ended, surplus, keep, innerRun, sealed}
-use Rattle.rules.specs.Objects.{counts, contents, object, objectBody}
-use Rattle.rules.specs.Files.{toFill, filled, fill, objects, namedPath, entryInside, entryBody, od, directory, namesOf, paths}
+use Rattle.rules.specs.Reading.{Rec, rec, Res, took, fails, also, _then_, Reader, Body}
+use Rattle.rules.specs.Parts.{repeat, element, component, due, ended, surplus, keep, innerRun, sealed}
+use Rattle.rules.specs.Files.{toFill, fill, namedPath, entryInside, entryBody, od, namesOf, paths}
 use Rattle.rules.specs.Book.{encode}
 use Rattle.rules.specs.LookLaws.{Laid, laid-append}
 use Rattle.rules.specs.BookLaws.{book-size}
 use Rattle.rules.specs.Pays.{names-append}
-use Rattle.objects.specs.Did.{Did, did, fell, Forward, Stays}
-use Rattle.reader.specs.Filing.{DidObjects, didObjects, fellObjects, objectsOf, DidEntries, ForwardMany, moreOf}
+use Rattle.objects.specs.Did.{Did, fell}
+use Rattle.reader.specs.Filing.{DidObjects, didObjects, fellObjects, objectsOf, DidEntries, ForwardMany, objectsIn}
+use Rattle.reader.specs.declared.holder.Holder.the-variants as holder
+use Rattle.reader.proofs.ObjectsLaws.{Plain, not-took, did-open, objects-fell, objects-same, objects-kept, objects-widen, objects-fails, objects-low, objects-high, objects-small, objects-few, objects-then, objects-then-fell, objects-open, plain-then, plain-fill}
+use Rattle.reader.proofs.HolderLaws.{more-before}
 use Rattle.reader.specs.Scan.{Lies, Holds, Whole, AgainTold, keyAt}
-use Rattle.objects.specs.DidLaws.{encode-append, encode-one, by-header, element-fails, did-one, did-high, did-small, did-same}
+use Rattle.objects.specs.DidLaws.{by-header, element-fails, did-one}
 use Rattle.objects.specs.RepeatLaws.{Going, going-none, going-step, going-stop, going-break}
 use Rattle.reader.proofs.LiesLaws.{First, first, first-whole, put-lies, put-lie}
 use Rattle.reader.proofs.NameLaws.{silent-took, fill-silent, Entry, entry-told, Naming, naming-start, naming-next, naming-bears, names-bear}
-
--- a part has no marks
-pub record Plain (w : Res) : Type 0 where
-  pub is : (bs : List Rec) (ms : List ℕ) (n : ℕ) → w ≡ took bs ms n → ms ≡ []
-
--- what a part was, by the code's answer
-pub did-open : {a b : List ℕ} {o at end n q : ℕ} {w : Res} → Did a b o at end w (Took n q) → (bs : List Rec) × (ms : List ℕ) × (w ≡ took bs ms n) × Put a b o q (encode bs)
-did-open (did {bs = bs} {ms = ms} f _ _ _) = (bs, ms, refl, f)
-
--- a part without marks among objects
-module _ {a b : List ℕ} {o at end : ℕ} {w : Res} {r : Part} (u : List ℕ) (k : ℕ) (d : Did a b o at end w r) where
-  pub objects-fell : {f : Fault} {p : ℕ} → r ≡ Fails f p → DidObjects a b u u o at end k w (many.Fails f p)
-  objects-fell {f} {p} z = go (rw z at d)
-    where
-      go : {w : Res} → Did a b o at end w (Fails f p) → DidObjects a b u u o at end k w (many.Fails f p)
-      go (fell e) = fellObjects e refl
-
-  pub objects-did : {n q : ℕ} → Plain w → k ≤ 128 → r ≡ Took n q → DidObjects a b u u o at end k w (many.Took n q k)
-  objects-did {n} {q} g h z = go w g (rw z at d)
-    where
-      go : (w : Res) → Plain w → Did a b o at end w (Took n q) → DidObjects a b u u o at end k w (many.Took n q k)
-      go (took bs ms _) g (did f i j l) = didObjects {ms = ms} {n = n} {j = k} f (rw (g .is bs ms n refl) (put-none u k)) i j l h
-
-module _ {a b u v : List ℕ} {o at end k : ℕ} {w : Res} {r : Many} (d : DidObjects a b u v o at end k w r) where
-  pub objects-same : length b ≡ length a
-  objects-same = go d
-    where
-      go : {w : Res} {r : Many} → DidObjects a b u v o at end k w r → length b ≡ length a
-      go (didObjects f _ _ _ _ _) = put-length f
-      go (fellObjects e _) = e
-
-  pub objects-kept : length v ≡ length u
-  objects-kept = go d
-    where
-      go : {w : Res} {r : Many} → DidObjects a b u v o at end k w r → length v ≡ length u
-      go (didObjects _ f _ _ _ _) = put-length f
-      go (fellObjects _ e) = e
-
-  pub objects-widen : {x y : ℕ} → x ≤ at → end ≤ y → DidObjects a b u v o x y k w r
-  objects-widen {x} {y} h l = go d
-    where
-      go : {w : Res} {r : Many} → DidObjects a b u v o at end k w r → DidObjects a b u v o x y k w r
-      go (didObjects {n = n} f g i j m c) = didObjects {n = n} f g (omega arith) (omega arith) m c
-      go (fellObjects e f) = fellObjects e f
-
-  -- a refusal of the first part is the whole's
-  pub objects-fails : (g : ℕ → Res) {f : Fault} {p : ℕ} → r ≡ many.Fails f p → DidObjects a b u v o at end k (andThen w g) (many.Fails f p)
-  objects-fails g {f} {p} z = go (rw z at d)
-    where
-      go : {w : Res} → DidObjects a b u v o at end k w (many.Fails f p) → DidObjects a b u v o at end k (andThen w g) (many.Fails f p)
-      go (fellObjects x y) = fellObjects x y
-
-  module _ {n q j : ℕ} (z : r ≡ many.Took n q j) where
-    was : DidObjects a b u v o at end k w (many.Took n q j)
-    was = rw z at d
-
-    pub objects-low : at ≤ n
-    objects-low = go was
-      where
-        go : {w : Res} → DidObjects a b u v o at end k w (many.Took n q j) → at ≤ n
-        go (didObjects _ _ i _ _ _) = i
-
-    pub objects-high : n ≤ end
-    objects-high = go was
-      where
-        go : {w : Res} → DidObjects a b u v o at end k w (many.Took n q j) → n ≤ end
-        go (didObjects _ _ _ i _ _) = i
-
-    pub objects-small : q ≤ 8 * n
-    objects-small = go was
-      where
-        go : {w : Res} → DidObjects a b u v o at end k w (many.Took n q j) → q ≤ 8 * n
-        go (didObjects _ _ _ _ i _) = i
-
-    pub objects-few : j ≤ 128
-    objects-few = go was
-      where
-        go : {w : Res} → DidObjects a b u v o at end k w (many.Took n q j) → j ≤ 128
-        go (didObjects _ _ _ _ _ i) = i
-
-    -- and then a part without marks
-    module _ (g : ℕ → Res) {c : List ℕ} {x : Part} (e : Did b c q n end (g n) x) where
-      pub objects-then : {m t : ℕ} → Plain (g n) → x ≡ Took m t → DidObjects a c u v o at end k (andThen w g) (many.Took m t j)
-      objects-then {m} {t} pl y = go was (g n) refl (rw y at e)
-        where
-          go : {w : Res} → DidObjects a b u v o at end k w (many.Took n q j) → (h : Res) → g n ≡ h → Did b c q n end h (Took m t) → DidObjects a c u v o at end k (andThen w g) (many.Took m t j)
-          go (didObjects {bs = bs} {ms = ms} f s i _ _ l) (took cs ns _) eq (did f′ i′ j′ k′) =
-              let nil : ns ≡ [] = pl .is cs ns m eq in
-              rw (eq, nil, append-nil ms) (didObjects {n = m} (put-then f f′ (sym (encode-append bs cs))) s (omega arith) j′ k′ l)
-
-      pub objects-then-fell : {f : Fault} {p : ℕ} → x ≡ Fails f p → DidObjects a c u v o at end k (andThen w g) (many.Fails f p)
-      objects-then-fell {f} {p} y = go was (g n) refl (rw y at e)
-        where
-          go : {w : Res} → DidObjects a b u v o at end k w (many.Took n q j) → (h : Res) → g n ≡ h → Did b c q n end h (Fails f p) → DidObjects a c u v o at end k (andThen w g) (many.Fails f p)
-          go (didObjects {bs = bs} {ms = ms} f s i _ _ l) (fails _ _) eq (fell e′) = rw eq (fellObjects (e′ ∙ put-length f) (put-length s))
-
--- and then a part that puts nothing
-module _ {a b u v : List ℕ} {o at end k : ℕ} {w : Res} {r : Many} (d : DidObjects a b u v o at end k w r) {n q j : ℕ} (z : r ≡ many.Took n q j) (g : ℕ → Res) {x : Part} (e : Stays q n end (g n) x) where
-  pub objects-ends : {m t : ℕ} → Plain (g n) → x ≡ Took m t → DidObjects a b u v o at end k (andThen w g) (many.Took m t j)
-  objects-ends pl y = objects-then d z g (e .is b) pl y
-
-  pub objects-ends-fell : {f : Fault} {p : ℕ} → x ≡ Fails f p → DidObjects a b u v o at end k (andThen w g) (many.Fails f p)
-  objects-ends-fell y = objects-then-fell d z g (e .is b) y
-
--- a record in front
-pub objects-front : {a b c u v : List ℕ} {o q x e k : ℕ} {w : Res} {r : Many} (kind : ℕ) (p : List ℕ) → Put a b o q (recordBytes kind p) → DidObjects b c u v q x e k w r → DidObjects a c u v o x e k (also (rec kind p ∷ []) [] w) r
-objects-front kind p f (didObjects {bs = bs} {n = n} g s i j l m) = didObjects {n = n} (put-then f g (sym (encode-append (rec kind p ∷ []) bs ∙ rw (encode-one kind p) refl))) s i j l m
-objects-front kind p f (fellObjects e g) = fellObjects (e ∙ put-length f) g
-
--- an object's mark is its place, and it is one of the first 128
-counts-mark : (at : ℕ) (w : Res) {bs : List Rec} {ms : List ℕ} {n : ℕ} → counts at w ≡ took bs ms n → ms ≡ at ∷ []
-counts-mark at (took cs ns m) z = cc
-counts-mark at (fails f p) z = let y : _≡_ {A = ℕ} 0 1 = cc in absurd (omega arith)
-
-not-took : {f : Fault} {p n : ℕ} {bs : List Rec} {ms : List ℕ} → fails f p ≡ took bs ms n → ⊥
-not-took z = let y : _≡_ {A = ℕ} 0 1 = cc in omega arith
-
-body : (s : List ℕ) (entry t at a e : ℕ) {bs : List Rec} {ms : List ℕ} {n : ℕ} → objectBody s entry t at a e ≡ took bs ms n → ms ≡ at ∷ []
-unfolding objectBody
-body s entry t at a e {bs} {ms} {n} = by-choose (λ (w : Res). w ≡ took bs ms n → ms ≡ at ∷ []) (eqb t 0x30 || (leb 0xa0 t && leb t 0xa7)) (λ _ _ z. counts-mark at (also (rec 0x0120 (entry ∷ t ∷ []) ∷ []) [] (contents s entry t e a)) z) (λ _ _ z. absurd (not-took z))
-
-pub object-mark : (s : List ℕ) (entry k end at : ℕ) {bs : List Rec} {ms : List ℕ} {n : ℕ} → object s entry k end at ≡ took bs ms n → ms ≡ at ∷ []
-unfolding entries.object objectBody element
-object-mark s entry k end at {bs} {ms} {n} =
-    by-choose P (ltb k 128) (λ _ _. by-choose P (ltb at end) (λ _ _. go (header s at end)) (λ _ _ z. absurd (not-took z))) (λ _ _ z. absurd (not-took z))
-  where
-    P : Res → Type 0
-    P w = w ≡ took bs ms n → ms ≡ at ∷ []
-
-    go : (h : Head) → P (whatever (objectBody s entry) at h)
-    go (No f p) = λ z. absurd (not-took z)
-    go (At t a e) = body s entry t at a e
-
-pub object-few : (s : List ℕ) (entry k end at : ℕ) {bs : List Rec} {ms : List ℕ} {n : ℕ} → object s entry k end at ≡ took bs ms n → k < 128
-unfolding entries.object
-object-few s entry k end at {bs} {ms} {n} = by-choose (λ (w : Res). w ≡ took bs ms n → k < 128) (ltb k 128) (λ _ e _. ltb-true k 128 e) (λ _ _ z. absurd (not-took z))
-
--- the loop over objects
-pub record Objects (s : List ℕ) (entry : ℕ) (file : Bool) (a b u v : List ℕ) (end at o k j n p : ℕ) : Type 0 where
-  pub going : Going (moreOf s file) (object s entry) a b end at o k j n p
-  pub marks : Put u v k j (going .ms)
-  pub few : j ≤ 128
-  pub low : at ≤ n
-  pub high : n ≤ end
-  pub small : p ≤ 8 * n
-  pub same : length b ≡ length a
-  pub kept : length v ≡ length u
-
-pub objects-start : (s : List ℕ) (entry : ℕ) (file : Bool) (a u : List ℕ) (end at o k : ℕ) → k ≤ 128 → at ≤ end → o ≤ 8 * at → Objects s entry file a a u u end at o k k at o
-unfolding going-none
-objects-start s entry file a u end at o k h i l = record {
-  going = going-none (moreOf s file) (object s entry) a end at o k i l;
-  marks = put-none u k;
-  few = h;
-  low = omega arith;
-  high = i;
-  small = l;
-  same = refl;
-  kept = refl;
-}
-
-more-before : (s : List ℕ) (file : Bool) (end at : ℕ) → moreOf s file end at ≡ true → at < end
-more-before s true end at e = ltb-true at end (both-true (ltb at end) (not (eqb (getD s at 0) 0 || eqb (getD s at 0) 0xff)) e .0)
-more-before s false end at e = ltb-true at end e
-
-module _ {s : List ℕ} {entry : ℕ} {file : Bool} {a b u v : List ℕ} {end at o k j n p : ℕ} (h : Objects s entry file a b u v end at o k j n p) {t : Bool} (m : t ≡ moreOf s file end n) where
-  pub objects-all : t ≡ false → DidObjects a b u v o at end k (objects s (moreOf s file) entry k end at) (many.Took n p j)
-  unfolding objects
-  objects-all z = rw (going-stop (h .going) (sym m ∙ z)) (didObjects {n = n} (h .going .put) (h .marks) (h .low) (h .high) (h .small) (h .few))
-
-  module _ (z : t ≡ true) {c : List ℕ} {w : Part} (d : Did b c p n end (object s entry j end n) w) where
-    pub objects-broke : {f : Fault} {x : ℕ} → w ≡ Fails f x → DidObjects a c u v o at end k (objects s (moreOf s file) entry k end at) (many.Fails f x)
-    unfolding objects
-    objects-broke {f} {x} e = go (rw e at d)
-      where
-        go : Did b c p n end (object s entry j end n) (Fails f x) → DidObjects a c u v o at end k (repeat (moreOf s file) (object s entry) (end - at) k end at) (many.Fails f x)
-        go g = failed (object s entry j end n) refl g
-          where
-            failed : (y : Res) → object s entry j end n ≡ y → Did b c p n end y (Fails f x) → DidObjects a c u v o at end k (repeat (moreOf s file) (object s entry) (end - at) k end at) (many.Fails f x)
-            failed (fails _ _) q (fell l) = rw (going-break (h .going) (sym m ∙ z) (more-before s file end n (sym m ∙ z)) q) (fellObjects (l ∙ h .same) (h .kept))
-
-    module _ {r q : ℕ} (e : w ≡ Took r q) (fw : Forward n w) where
-      pub objects-less : end - r < end - n
-      objects-less = omega (arith, fw .is r q e, did-high d e)
-
-      pub objects-next : {x : List ℕ} {i y : ℕ} → Put v x j i (y ∷ []) → y ≡ n → Objects s entry file a c u x end at o k i r q
-      unfolding going-step
-      objects-next {x} {i} {y} g l =
-          let w = did-open (rw e at d) in
-          let one : w .1 ≡ n ∷ [] = object-mark s entry j end n (w .2) in
-          let was : object s entry j end n ≡ took (w .0) (n ∷ []) r = rw one at (w .2) in
-          record {
-            going = going-step (h .going) (sym m ∙ z) (more-before s file end n (sym m ∙ z)) (w .0) (n ∷ []) was (w .3) (fw .is r q e) (did-high d e) (did-small d e) (g .at);
-            marks = put-put (h .marks) (rw l at g);
-            few = omega (arith, object-few s entry j end n (w .2), g .at);
-            low = omega (arith, h .low, fw .is r q e);
-            high = did-high d e;
-            small = did-small d e;
-            same = did-same d ∙ h .same;
-            kept = put-length g ∙ h .kept;
-          }
-
--- whether another object comes
-pub more-file : (s : List ℕ) (end at : ℕ) {f r : Bool} → f ≡ true → r ≡ toFill s end at → r ≡ moreOf s f end at
-more-file s end at e k = rw e k
-
-pub more-list : (s : List ℕ) (end at : ℕ) {f : Bool} → f ≡ false → ltb at end ≡ moreOf s f end at
-more-list s end at e = rw e refl
 
 -- a path of EF.OD
 module _ (s : List ℕ) (entry at x e : ℕ) where
@@ -295,29 +88,6 @@ plain-ended s end at = by-choose Plain (ltb at end) (λ _ _. go (header s at end
     go (No f p) = record { is = λ bs ms n z. absurd (not-took z) }
     go (At t a e) = record { is = λ bs ms n z. absurd (not-took z) }
 
-plain-then : {w : Res} {g : ℕ → Res} → Plain w → ((n : ℕ) → Plain (g n)) → Plain (andThen w g)
-plain-then {w} {g} h f = go w h
-  where
-    join : (bs : List Rec) (ms : List ℕ) (v : Res) → ms ≡ [] → Plain v → Plain (also bs ms v)
-    join bs ms (took cs ns m) e p = record { is = λ ds ps n z. let y : ns ≡ [] = p .is cs ns m refl in sym (ap-marks z) ∙ rw (e, y) refl }
-      where
-        ap-marks : {ds : List Rec} {ps : List ℕ} {n : ℕ} → took (bs ++ cs) (ms ++ ns) m ≡ took ds ps n → ms ++ ns ≡ ps
-        ap-marks z = cc
-    join bs ms (fails x p) e q = record { is = λ ds ps n z. absurd (not-took z) }
-
-    go : (w : Res) → Plain w → Plain (andThen w g)
-    go (took bs ms n) p = join bs ms (g n) (p .is bs ms n refl) (f n)
-    go (fails x p) q = record { is = λ ds ps n z. absurd (not-took z) }
-
-filled-plain : (s : List ℕ) (b g end at : ℕ) → Plain (filled s b g end at)
-unfolding filled
-filled-plain s b zero end at = record { is = λ bs ms n z. cc }
-filled-plain s b (suc g) end at = by-choose Plain (eqb (getD s at 0) b) (λ _ _. filled-plain s b g end (at + 1)) (λ _ _. record { is = λ bs ms n z. absurd (not-took z) })
-
-pub plain-fill : (s : List ℕ) (kind end at : ℕ) → Plain (fill s kind end at)
-unfolding fill
-plain-fill s kind end at = by-choose Plain (ltb at end) (λ _ _. plain-then (filled-plain s (getD s at 0) (end - at) end at) (λ n. record { is = λ bs ms m z. cc })) (λ _ _. record { is = λ bs ms n z. cc })
-
 named-plain : (s : List ℕ) (entry at a e : ℕ) → Plain (namedPath s entry at a e)
 unfolding namedPath
 named-plain s entry at a e = by-choose Plain (leb 1 (e - a) && leb (e - a) 64) (λ _ _. record { is = λ bs ms n z. cc }) (λ _ _. record { is = λ bs ms n z. absurd (not-took z) })
@@ -356,8 +126,8 @@ module _ (s : List ℕ) (entry k t at x e : ℕ) {a b u v : List ℕ} {o : ℕ} 
   unfolding entryInside
   in-path z d = rw z d
 
-  pub in-objects : t ≡ 0xa0 → DidObjects a b u v o x e k (also (rec 0x0110 (entry ∷ 1 ∷ []) ∷ []) [] (objects s toEnd entry k e x)) r → DidObjects a b u v o x e k (entryInside s entry k t at x e) r
-  unfolding entryInside objects
+  pub in-objects : t ≡ 0xa0 → DidObjects a b u v o x e k (also (rec 0x0110 (entry ∷ 1 ∷ []) ∷ []) [] (objectsIn s holder.List entry k e x)) r → DidObjects a b u v o x e k (entryInside s entry k t at x e) r
+  unfolding entryInside
   in-objects z d = rw z d
 
   pub body-known : {y : Bool} → y ≡ (leb 0xa0 t && leb t 0xa8) → y ≡ true → DidObjects a b u v o x e k ((element s (entryInside s t k) then ended s) e x) r → DidObjects a b u v o x e k (entryBody s k t at x e) r
@@ -437,9 +207,6 @@ entries-start {s} {a} {end} {at} {o} u r i l = record {
   kept = refl;
 }
 
-pub objects-open : {a b u v : List ℕ} {o at end k n q j : ℕ} {w : Res} → DidObjects a b u v o at end k w (many.Took n q j) → (bs : List Rec) × (ms : List ℕ) × (w ≡ took bs ms n) × Put a b o q (encode bs) × Put u v k j ms
-objects-open (didObjects {bs = bs} {ms = ms} f g _ _ _ _) = (bs, ms, refl, f, g)
-
 -- a refusal tells no place
 pub entries-fell : {s a b u v : List ℕ} {o at end : ℕ} {w : Res} {f : Fault} {p : ℕ} → DidObjects a b u v o at end 0 w (many.Fails f p) → DidEntries s a b u v o at end w (list.Fails f p)
 entries-fell d = record { objects = d; told = λ _ e. let z : _≡_ {A = ℕ} 0 1 = cc in absurd (omega arith) }
@@ -458,7 +225,7 @@ module _ {s a b u v : List ℕ} {end at o k n p again : ℕ} (h : Listing s a b 
 
   module _ (z : t ≡ true) {c x : List ℕ} {w : Many} (d : DidObjects b c v x p n end k (element s (entryBody s k) end n) w) where
     before : n < end
-    before = more-before s true end n (sym m ∙ z)
+    before = more-before s holder.File end n (sym m ∙ z)
 
     pub entries-broke : {f : Fault} {y : ℕ} → w ≡ many.Fails f y → DidEntries s a c u x o at end (allEntries s end at) (list.Fails f y)
     entries-broke {f} {y} e = entries-fell (failed (element s (entryBody s k) end n) refl (rw e at d))
@@ -561,17 +328,3 @@ module _ {s a b u v : List ℕ} {o at end : ℕ} {w : Entries} (d : DidEntries s
                 let same : again ≡ again′ = cc in
                 rw (names, ← same) (d .told (all .2) z);
           }
-
-module _ {a b u v : List ℕ} {o at end k : ℕ} (s : List ℕ) (entry : ℕ) {w : Many} (d : DidObjects a b u v o at end k (also (rec 0x0118 [] ∷ []) [] (objects s (toFill s) entry k end at)) w) where
-  pub directory-fails : {f : Fault} {p : ℕ} → w ≡ many.Fails f p → DidObjects a b u v o at end k (directory s entry k end at) (many.Fails f p)
-  unfolding directory objects
-  directory-fails z = objects-fails d (λ n. fill s 0x0107 end n) z
-
-  module _ {n q j : ℕ} (z : w ≡ many.Took n q j) {c : List ℕ} {x : Part} (e : Did b c q n end (fill s 0x0107 end n) x) where
-    pub directory-fill-fails : {f : Fault} {p : ℕ} → x ≡ Fails f p → DidObjects a c u v o at end k (directory s entry k end at) (many.Fails f p)
-    unfolding directory objects
-    directory-fill-fails y = objects-then-fell d z (λ m. fill s 0x0107 end m) e y
-
-    pub directory-filled : {m t : ℕ} → x ≡ Took m t → DidObjects a c u v o at end k (directory s entry k end at) (many.Took m t j)
-    unfolding directory objects
-    directory-filled y = objects-then d z (λ m. fill s 0x0107 end m) e (plain-fill s 0x0107 end n) y

@@ -41,11 +41,12 @@ use Rattle.objects.specs.Did.{Did, did, fell}
 use Rattle.reader.specs.Filing.{DidObjects, fellObjects, objectsOf, DidEntries, PathsTold}
 use Rattle.reader.specs.Scan.{Lies, Holds, IdsTold, clashOf}
 use Rattle.reader.specs.Frame.{framedAs, Inner, FramesTold}
+use Rattle.reader.proofs.FrameLaws.{inner-mid, inner-high}
 use Rattle.reader.specs.Twelve.{FollowTold, followedAs}
 use Rattle.reader.specs.Directories.{DidFiles, didFiles, fellFiles, FilesTold}
 use Rattle.reader.specs.Stages.{Reads, reads, falls, Framing, Opening, Opened, FilesRead, EntriesRead, PartsRead}
 use Rattle.objects.specs.DidLaws.{encode-append, did-same}
-use Rattle.reader.proofs.EntryLaws.{objects-open, objects-few, objects-same}
+use Rattle.reader.proofs.ObjectsLaws.{objects-open, objects-few, objects-same}
 use Rattle.reader.proofs.LiesLaws.{put-lies, put-lie}
 
 -- records laid out behind others
@@ -246,17 +247,6 @@ module _ {s a b : List ℕ} {from to start stop : ℕ} (h : Framing s start stop
           rw (x, y, q .are, z′) (reads-then [] (q .bs) (q .put) (t .is o fs (q .bs) u v e));
     }
 
--- where a file lies
-module _ {s : List ℕ} {at : ℕ} {r : Framed} (i : Inner s at r) {n a e : ℕ} (z : r ≡ file.File n a e) where
-  pub inner-low : at + 4 ≤ a
-  inner-low = i .is n a e z .0
-
-  pub inner-mid : a ≤ e
-  inner-mid = i .is n a e z .2
-
-  pub inner-high : e ≤ length s
-  inner-high = i .is n a e z .3
-
 -- the frames
 module _ (s : List ℕ) where
   pub into-long : {a : List ℕ} → 32768 < length s → Reads [] a a 0 (readDump s) (Refused DumpSize 0)
@@ -268,12 +258,12 @@ module _ (s : List ℕ) where
     unfolding readDump
     into-first z = rw (le-leb (length s) 32768 small, e, z) (falls refl)
 
-    module _ {n from to : ℕ} (z : x ≡ file.File n from to) {y : Framed} (d : frame s 2 to ≡ framedAs to y) where
+    module _ {k n from to : ℕ} (z : x ≡ file.File k n from to) {y : Framed} (d : frame s 2 to ≡ framedAs to y) where
       pub into-second : {a : List ℕ} {f : Fault} {p : ℕ} → y ≡ file.Broken f p → Reads [] a a 0 (readDump s) (Refused f p)
       unfolding readDump
       into-second v = rw (le-leb (length s) 32768 small, e, z, d, v) (falls refl)
 
-      module _ {m start stop : ℕ} (v : y ≡ file.File m start stop) {g : Chain} (t : FramesTold s stop g) where
+      module _ {l m start stop : ℕ} (v : y ≡ file.File l m start stop) {g : Chain} (t : FramesTold s stop g) where
         pub into-chain : {a : List ℕ} {f : Fault} {p : ℕ} → g ≡ Unsound f p → Reads [] a a 0 (readDump s) (Refused f p)
         unfolding readDump
         into-chain {a} {f} {p} u = rw (le-leb (length s) 32768 small, e, z, d, v, t .unsound f p u) (falls refl)
@@ -283,4 +273,4 @@ module _ (s : List ℕ) where
         into-parts u q = let w = t .sound u in rw (le-leb (length s) 32768 small, e, z, d, v, w .1) (q .is _ _ (w .0) refl refl refl refl (w .1))
 
         pub into-framing : {b : List ℕ} → g ≡ Sound → 131072 ≤ length b → Inner s to y → Framing s start stop b
-        into-framing u l i = let w = t .sound u in record { low = inner-mid i v; high = inner-high i v; small = small; wide = l; fs = w .0; chain = w .1 }
+        into-framing u h i = let w = t .sound u in record { low = inner-mid i v; high = inner-high i v; small = small; wide = h; fs = w .0; chain = w .1 }

@@ -2,11 +2,11 @@
 use Prim.Native.Nat.{ℕ, _+_, _-_, _<_, _≤_}
 use mathlib.Core.Path.{_≡_, refl, sym, ap, _∙_}
 use mathlib.Core.List.{List, [], _∷_}
-use mathlib.Core.Bool.{Bool, true, false}
+use mathlib.Core.Bool.{Bool, true, false, _&&_}
 use native.Mathlib.Omega.{arith}
 use lib.ListN.{length, getD}
 use lib.Seq.{slice}
-use lib.Dec.{ltb, leb, eqb}
+use lib.Dec.{ltb, leb}
 use Rattle.elements.specs.declared.fault.Fault.{Fault}
 use Rattle.elements.specs.declared.fault.Fault.the-variants.{FileDiffers, FileMissing, FileExtra}
 use Rattle.elements.specs.ChoiceLaws.{by-choose, by-less}
@@ -34,18 +34,18 @@ module _ (s : List ℕ) (at : ℕ) (f : File) where
   abbrev There : FrameRead → Type 0
   There v = v ≡ framed f → f .place ≡ at
 
-  file-there : (n a e : ℕ) → There (fileIn s at n a e)
+  file-there : (kind n a e : ℕ) → There (fileIn s at kind n a e)
   unfolding fileIn
-  file-there n a e =
+  file-there kind n a e =
       by-choose There (ltb e (a + n)) (λ _ _. none-there) (λ _ _.
       by-choose There (ltb 16383 (e - (a + n))) (λ _ _. none-there) (λ _ _. there refl))
 
-  named-there : (a e : ℕ) → There (namedFile s at a e)
+  named-there : (kind a e : ℕ) → There (namedFile s at kind a e)
   unfolding namedFile
-  named-there a e =
+  named-there kind a e =
       by-choose There (leb e a) (λ _ _. none-there) (λ _ _.
       by-choose There (ltb (getD s a 0) 1) (λ _ _. none-there) (λ _ _.
-      by-choose There (ltb 64 (getD s a 0)) (λ _ _. none-there) (λ _ _. file-there (1 + getD s a 0) a e)))
+      by-choose There (ltb 64 (getD s a 0)) (λ _ _. none-there) (λ _ _. file-there kind (1 + getD s a 0) a e)))
 
   place-there : There (namedFrame s at)
   unfolding namedFrame frameOf
@@ -54,7 +54,7 @@ module _ (s : List ℕ) (at : ℕ) (f : File) where
       by-choose There (ltb (length s) (at + 4)) (λ _ _. none-there) (λ _ _.
       by-choose There (ltb (two s at) 2) (λ _ _. none-there) (λ _ _.
       by-choose There (ltb (length s) (at + 2 + two s at)) (λ _ _. none-there) (λ _ _.
-      by-choose There (eqb (two s (at + 2)) 3) (λ _ _. named-there (at + 4) (at + 2 + two s at)) (λ _ _. none-there)))))
+      by-choose There (leb 3 (two s (at + 2)) && leb (two s (at + 2)) 4) (λ _ _. named-there (two s (at + 2)) (at + 4) (at + 2 + two s at)) (λ _ _. none-there)))))
 
 -- a chain has the same files whatever its turns
 module _ (s : List ℕ) where
@@ -172,22 +172,22 @@ module _ {s : List ℕ} {at : ℕ} {b : List ℕ} {i end j n : ℕ} (w : Followi
           let y : _≡_ {A = ℕ} 0 1 = cc in
           absurd (omega arith)
 
-      module _ {x a e : ℕ} (z : r ≡ file.File x a e) (m : ℕ) (k : m ≡ two b j) (t : Bool) (v : t ≡ equal (slice (j + 6) (j + 2 + m) b) (slice x a s)) where
+      module _ {y x a e : ℕ} (z : r ≡ file.File y x a e) (m : ℕ) (k : m ≡ two b j) (t : Bool) (v : t ≡ equal (slice (j + 6) (j + 2 + m) b) (slice x a s)) where
         -- the file that is framed here is compared with the name
         turn : (x : Named b end (w .left) j) → (rest : List File) × (g : ℕ) × (frames s g e ≡ files rest) × (follow s (namesOf (w .left)) (w .rest) ≡ choose t (λ _. follow s (namesOf (x .left)) rest) (λ _. wrongAt FileDiffers n))
         turn o =
             let c = chain-more s (w .more) n (w .rest) l (w .chain) in
-            let f : File = record { place = n; named = x; start = a; stop = e } in
+            let f : File = record { place = n; kind = y; named = x; start = a; stop = e } in
             let d : framed (c .0) ≡ framed f = sym (c .4) ∙ q ∙ rw z refl in
-            let y : c .0 ≡ f = cc in
-            let u : w .rest ≡ f ∷ c .1 = rw (← y) (c .3) in
-            (c .1, c .2, rw y at (c .5), follow-one s (o .name) f t (o .names) u (rw (o .path, ← k) v))
+            let g : c .0 ≡ f = cc in
+            let u : w .rest ≡ f ∷ c .1 = rw (← g) (c .3) in
+            (c .1, c .2, rw g at (c .5), follow-one s (o .name) f t (o .names) u (rw (o .path, ← k) v))
 
         pub follow-next : {j' : ℕ} → Inner s n r → t ≡ true → NameTold b (j + 2 + m) end j' → Following s at b i end j' e
-        follow-next {j'} p y d =
+        follow-next {j'} p g d =
             let o = named (w .next) h in
             let c = turn o in
-            let f = p .is x a e z in
+            let f = p .is y x a e z in
             record {
               all = w .all;
               lies = w .lies;
@@ -200,14 +200,14 @@ module _ {s : List ℕ} {at : ℕ} {b : List ℕ} {i end j n : ℕ} (w : Followi
               more = c .1;
               chain = c .2;
               high = omega arith;
-              same = w .same ∙ c .3 ∙ chosen t (λ _. follow s (namesOf (o .left)) (c .0)) (λ _. wrongAt FileDiffers n) y;
+              same = w .same ∙ c .3 ∙ chosen t (λ _. follow s (namesOf (o .left)) (c .0)) (λ _. wrongAt FileDiffers n) g;
             }
 
         pub follow-differs : t ≡ false → FollowTold s at b i end (Wrong FileDiffers n)
-        follow-differs y =
+        follow-differs g =
             let o = named (w .next) h in
             let c = turn o in
-            told (Wrong FileDiffers n) (c .3 ∙ unchosen t (λ _. follow s (namesOf (o .left)) (c .0)) (λ _. wrongAt FileDiffers n) y)
+            told (Wrong FileDiffers n) (c .3 ∙ unchosen t (λ _. follow s (namesOf (o .left)) (c .0)) (λ _. wrongAt FileDiffers n) g)
 
   module _ (h : end ≤ j) where
     pub follow-extra : n < length s → FollowTold s at b i end (Wrong FileExtra n)
@@ -220,14 +220,14 @@ module _ {s : List ℕ} {at : ℕ} {b : List ℕ} {i end j n : ℕ} (w : Followi
     unfolding follow
     follow-fine l = told Fine (rw (unnamed (w .next) h, chain-end s (w .more) n (w .rest) l (w .chain)) refl)
 
-module _ {s : List ℕ} {n : ℕ} {r : Framed} (d : Path s n r) {x a e : ℕ} (z : r ≡ file.File x a e) where
+module _ {s : List ℕ} {n : ℕ} {r : Framed} (d : Path s n r) {y x a e : ℕ} (z : r ≡ file.File y x a e) where
   -- a file's path lies before it
   pub path-low : x ≤ a
-  path-low = let b = d .is x a e z in omega arith
+  path-low = let b = d .is y x a e z in omega arith
 
   pub path-high : a ≤ length s
-  path-high = let b = d .is x a e z in omega arith
+  path-high = let b = d .is y x a e z in omega arith
 
   -- the file takes room
   pub follow-less : n < length s → length s - e < length s - n
-  follow-less l = let b = d .is x a e z in omega arith
+  follow-less l = let b = d .is y x a e z in omega arith

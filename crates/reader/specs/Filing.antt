@@ -1,19 +1,24 @@
--- What the code does of a file's parts: its fill, its objects with their places, EF.OD's entries.
-use Prim.Native.Nat.{ℕ, _-_, _*_, _≤_, _<_}
+-- What the code does of a file's parts: its fill, its objects with their places, its records, EF.OD's entries.
+use Prim.Native.Nat.{ℕ, _+_, _-_, _*_, _≤_, _<_}
 use mathlib.Core.Path.{_≡_}
 use mathlib.Core.List.{List, [], _∷_}
-use mathlib.Core.Bool.{Bool, true, false}
+use mathlib.Core.Bool.{Bool, false}
 use lib.ListN.{length}
+use lib.Dec.{ltb, eqb}
 use Rattle.elements.specs.declared.fault.Fault.{Fault}
-use Rattle.elements.specs.declared.fault.Fault.the-variants.{FillDiffers}
+use Rattle.elements.specs.declared.fault.Fault.the-variants.{FillDiffers, SecondObject}
+use Rattle.elements.specs.Choice.{choose}
 use Rattle.elements.specs.Put.{Put}
 use Rattle.objects.specs.declared.part.Many.{Many}
 use Rattle.objects.specs.declared.part.Many.the-variants as many
 use Rattle.reader.specs.declared.answer.Entries.{Entries}
 use Rattle.reader.specs.declared.answer.Entries.the-variants as entries
+use Rattle.reader.specs.declared.holder.Holder.{Holder}
+use Rattle.reader.specs.declared.holder.Holder.the-variants as holder
 use Rattle.rules.specs.Reading.{Rec, rec, Res, took, fails, also, Reader, _then_}
-use Rattle.rules.specs.Parts.{element, ended, repeat, toEnd}
-use Rattle.rules.specs.Files.{toFill, filled, objects, entryInside, entryBody, namesOf, paths, firstAgain, entryPlace}
+use Rattle.rules.specs.Parts.{element, ended, repeat, upTo, toEnd}
+use Rattle.rules.specs.Objects.{object}
+use Rattle.rules.specs.Files.{toFill, filled, fill, recordEnd, directory, recordIn, linear, entryInside, entryBody, namesOf, paths, firstAgain, entryPlace}
 use Rattle.rules.specs.Book.{encode}
 
 -- r is the first place from `at` on that differs from b, or the end
@@ -43,15 +48,49 @@ pub record DidEntries (s a b u v : List ℕ) (o at end : ℕ) (w : Res) (r : Ent
 pub record ForwardMany (at : ℕ) (r : Many) : Type 0 where
   pub is : (n q j : ℕ) → r ≡ many.Took n q j → at < n
 
--- objects go up to the fill of a file, or up to their container's end
-abbrev pub moreOf : List ℕ → Bool → ℕ → ℕ → Bool
-moreOf s true end at = toFill s end at
-moreOf s false end at = toEnd end at
+-- objects go up to the end of a list in EF.OD, or up to the fill of a file or of a record
+abbrev pub moreOf : List ℕ → Holder → ℕ → ℕ → Bool
+moreOf s holder.List end at = toEnd end at
+moreOf s holder.File end at = toFill s end at
+moreOf s holder.Record end at = toFill s end at
+
+-- a record is full with one: k came before it, j in all
+abbrev pub fullOf : Holder → ℕ → ℕ → Bool
+fullOf holder.List k j = false
+fullOf holder.File k j = false
+fullOf holder.Record k j = ltb k j
 
 module _ (s : List ℕ) where
+  -- the next object of a holder, k before which there were
+  abbrev pub itemOf : Holder → ℕ → ℕ → ℕ → Reader
+  itemOf holder.List entry k = object s entry
+  itemOf holder.File entry k = object s entry
+  itemOf holder.Record entry k = upTo (k + 1) SecondObject (object s entry)
+
+  -- its objects; behind the record that opens it; with its fill
+  abbrev pub objectsIn : Holder → ℕ → ℕ → Reader
+  objectsIn x entry k end at = repeat (moreOf s x) (itemOf x entry k) (end - at) k end at
+
+  abbrev pub openedBy : Holder → ℕ → ℕ → ℕ → Reader
+  openedBy x kind entry k end at = also (rec kind [] ∷ []) [] (objectsIn x entry k end at)
+
+  abbrev pub filledUp : Holder → ℕ → ℕ → ℕ → Reader
+  filledUp x kind entry k = openedBy x kind entry k then fill s 0x0107
+
+  -- the record at a place, and those of a record file in turn
+  abbrev pub recordAt : ℕ → ℕ → Reader
+  recordAt entry j _ i = recordIn s entry j (recordEnd s i) (i + 2)
+
+  abbrev pub recordsIn : ℕ → ℕ → Reader
+  recordsIn entry k end at = repeat toEnd (recordAt entry) (end - at) k end at
+
+  -- a file by its kind
+  abbrev pub byKind : ℕ → ℕ → ℕ → Reader
+  byKind kind entry k end at = choose (eqb kind 3) (λ _. directory s entry k end at) (λ _. linear s entry k end at)
+
   -- objects in EF.OD itself, behind the record of their entry
   abbrev pub inlined : ℕ → ℕ → Reader
-  inlined entry k end at = also (rec 0x0110 (entry ∷ 1 ∷ []) ∷ []) [] (objects s toEnd entry k end at)
+  inlined entry k end at = also (rec 0x0110 (entry ∷ 1 ∷ []) ∷ []) [] (objectsIn holder.List entry k end at)
 
   -- the contents of an entry of a class
   abbrev pub knownEntry : ℕ → ℕ → Reader
@@ -64,7 +103,3 @@ module _ (s : List ℕ) where
   -- EF.OD's entries, up to its fill
   abbrev pub entriesAt : Reader
   entriesAt end at = repeat (toFill s) entryAt (end - at) 0 end at
-
-  -- the objects of a directory file behind their 0118
-  abbrev pub filed : ℕ → ℕ → Reader
-  filed entry k end at = also (rec 0x0118 [] ∷ []) [] (objects s (toFill s) entry k end at)

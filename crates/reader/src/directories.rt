@@ -1,6 +1,6 @@
-use crate::entry::directory;
 use crate::frame::Framed;
 use crate::frame::named_frame;
+use crate::linear::file_of;
 use crate::scan::next_name;
 use objects::Many;
 use rules::word;
@@ -36,9 +36,9 @@ pub fn directories(
             Framed::Broken(f, x) => {
                 return Many::Fails(f, x);
             }
-            Framed::File(_, a, e) => {
+            Framed::File(kind, _, a, e) => {
                 let m = j + 2 + word(out, j);
-                match directory(s, out[j + 4], c, e, a, out, p, marks) {
+                match file_of(s, kind, out[j + 4], c, e, a, out, p, marks) {
                     Many::Fails(f, x) => {
                         return Many::Fails(f, x);
                     }

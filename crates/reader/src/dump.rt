@@ -103,9 +103,9 @@ pub fn read_into(s: &[u8], out: &mut [u8]) -> Outcome
     }
     match frame(s, 1, 0) {
         Framed::Broken(f, p) => Outcome::Refused(f, p),
-        Framed::File(_, from, to) => match frame(s, 2, to) {
+        Framed::File(_, _, from, to) => match frame(s, 2, to) {
             Framed::Broken(f, p) => Outcome::Refused(f, p),
-            Framed::File(_, start, stop) => match frames(s, stop) {
+            Framed::File(_, _, start, stop) => match frames(s, stop) {
                 Chain::Unsound(f, p) => Outcome::Refused(f, p),
                 Chain::Sound => read_parts(s, from, to, start, stop, out),
             },

@@ -1,6 +1,8 @@
 use crate::answer::Entries;
 use crate::fill::fill;
 use crate::fill::goes_on;
+use crate::holder::Holder;
+use crate::holder::objects;
 use crate::scan::first_again;
 use elements::Fault;
 use elements::Head;
@@ -11,13 +13,10 @@ use objects::Many;
 use objects::Part;
 use objects::ended;
 use objects::inner_run;
-use objects::object_at;
-use objects::put_bare;
 use objects::put_behind;
 use objects::put_two;
 use objects::stands;
 use rules::Need;
-use rules::store;
 ghost use mathlib.Core.Path.{_≡_};
 ghost use mathlib.Core.Bool.{_&&_};
 ghost use mathlib.Core.List.{[], _∷_};
@@ -27,53 +26,9 @@ ghost use lib.Dec.{leb};
 ghost use Rattle.rules.specs.declared.table.Need.the-variants.{Required};
 ghost use Rattle.rules.specs.Reading.{_then_};
 ghost use Rattle.rules.specs.Parts.{component, element, ended, sealed};
-ghost use Rattle.rules.specs.Files.{objects, namedPath, entryInside, entryBody, od, directory};
+ghost use Rattle.rules.specs.Files.{namedPath, entryInside, entryBody, od};
 ghost use Rattle.objects.specs.Did.{Did, InElement, InContainer};
-ghost use Rattle.reader.specs.Filing.{DidObjects, DidEntries, ForwardMany, moreOf, inlined, knownEntry, entryAt, entriesAt, filed};
-
-// Whether another object comes: up to the container's end, or up to the fill of a file.
-fn more_at(s: &[u8], file: bool, end: usize, at: usize) -> bool
-    requires { ⌜ end ≤ length (now s) ⌝ }
-    ensures { λ r. ⌜ r ≡ moreOf (now (s .entry)) file end at ⌝ }
-{
-    if file {
-        return goes_on(s, end, at);
-    }
-    at < end
-}
-
-// Objects, after k objects of the dump; their places go to marks.
-fn objects(
-    s: &[u8],
-    entry: u8,
-    file: bool,
-    k: usize,
-    end: usize,
-    at: usize,
-    out: &mut [u8],
-    o: usize,
-    marks: &mut [u32],
-) -> Many
-    requires { ⌜ (k ≤ 128) × InContainer (now s) end at o ⌝ }
-    ensures { λ r. ⌜ DidObjects (now (out .entry)) (now (out .exit)) (now (marks .entry)) (now (marks .exit)) o at end k (objects (now (s .entry)) (moreOf (now (s .entry)) file) entry k end at) r ⌝ }
-{
-    let mut j = k;
-    let mut n = at;
-    let mut p = o;
-    while more_at(s, file, end, n) {
-        match object_at(s, entry, j, end, n, out, p) {
-            Part::Fails(f, x) => {
-                return Many::Fails(f, x);
-            }
-            Part::Took(m, t) => {
-                j = store(marks, j, n as u32);
-                n = m;
-                p = t;
-            }
-        }
-    }
-    Many::Took(n, p, j)
-}
+ghost use Rattle.reader.specs.Filing.{DidObjects, DidEntries, ForwardMany, inlined, knownEntry, entryAt, entriesAt};
 
 // "An EF.OD path holds one OCTET STRING of 1 to 64 bytes".
 fn named_path(s: &[u8], entry: u8, at: usize, a: usize, e: usize, out: &mut [u8], o: usize) -> Part
@@ -127,7 +82,7 @@ fn inline(
     ensures { λ r. ⌜ DidObjects (now (out .entry)) (now (out .exit)) (now (marks .entry)) (now (marks .exit)) o a e k (inlined (now (s .entry)) entry k e a) r ⌝ }
 {
     let q = put_two(out, o, 0x0110, entry, 1);
-    objects(s, entry, false, k, e, a, out, q, marks)
+    objects(s, Holder::List, entry, k, e, a, out, q, marks)
 }
 
 // "Inside is a Path 30 or objects A0".
@@ -311,47 +266,6 @@ pub fn object_directory(
         Entries::Took(n, q, j, again) => match fill(s, 0x0107, end, n, out, q) {
             Part::Fails(f, p) => Entries::Fails(f, p),
             Part::Took(m, t) => Entries::Took(m, t, j, again),
-        },
-    }
-}
-
-// A directory file's objects behind their 0118.
-fn file_objects(
-    s: &[u8],
-    entry: u8,
-    k: usize,
-    end: usize,
-    at: usize,
-    out: &mut [u8],
-    o: usize,
-    marks: &mut [u32],
-) -> Many
-    requires { ⌜ (k ≤ 128) × (o + 4 ≤ 8 * at) × InContainer (now s) end at o ⌝ }
-    ensures { λ r. ⌜ DidObjects (now (out .entry)) (now (out .exit)) (now (marks .entry)) (now (marks .exit)) o at end k (filed (now (s .entry)) entry k end at) r ⌝ }
-{
-    let q = put_bare(out, o, 0x0118);
-    objects(s, entry, true, k, end, at, out, q, marks)
-}
-
-// A directory file, after k objects.
-pub fn directory(
-    s: &[u8],
-    entry: u8,
-    k: usize,
-    end: usize,
-    at: usize,
-    out: &mut [u8],
-    o: usize,
-    marks: &mut [u32],
-) -> Many
-    requires { ⌜ (k ≤ 128) × (o + 4 ≤ 8 * at) × InContainer (now s) end at o ⌝ }
-    ensures { λ r. ⌜ DidObjects (now (out .entry)) (now (out .exit)) (now (marks .entry)) (now (marks .exit)) o at end k (directory (now (s .entry)) entry k end at) r ⌝ }
-{
-    match file_objects(s, entry, k, end, at, out, o, marks) {
-        Many::Fails(f, p) => Many::Fails(f, p),
-        Many::Took(n, q, j) => match fill(s, 0x0107, end, n, out, q) {
-            Part::Fails(f, p) => Many::Fails(f, p),
-            Part::Took(m, t) => Many::Took(m, t, j),
         },
     }
 }

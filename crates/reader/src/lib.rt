@@ -5,7 +5,9 @@ mod dump;
 mod entry;
 mod fill;
 mod frame;
+mod holder;
 mod info;
+mod linear;
 mod scan;
 mod twelve;
 

@@ -30,7 +30,7 @@ pub fn follow(s: &[u8], at: usize, b: &[u8], i: usize, end: usize) -> Followed
             Framed::Broken(f, p) => {
                 return Followed::Wrong(f, p);
             }
-            Framed::File(x, a, e) => {
+            Framed::File(_, x, a, e) => {
                 let k = j + 2 + word(b, j);
                 if same_bytes(b, j + 6, k, s, x, a) {
                     n = e;

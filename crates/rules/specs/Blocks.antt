@@ -16,9 +16,9 @@ use Rattle.rules.specs.Kinds.{Among, none-there, there}
 use Rattle.rules.specs.Layout.{Layout, maybe}
 use Rattle.rules.specs.Layouts as layouts
 
--- an object's records reach "up to the next 0120, 0110, 0107, 0118 or the end"
+-- an object's records reach up to the next 0120, 0110, 0107, 0118, 0119, 011A or the end
 abbrev pub closing : ℕ → Bool
-closing k = eqb k 0x0120 || (eqb k 0x0110 || (eqb k 0x0107 || eqb k 0x0118))
+closing k = among k (0x0120 ∷ 0x0110 ∷ 0x0107 ∷ 0x0118 ∷ 0x0119 ∷ 0x011a ∷ [])
 
 -- none of these records closes an object
 abbrev pub inner : List Rec → Bool

@@ -9,12 +9,12 @@ use Rattle.elements.specs.Record.{recordBytes}
 use Rattle.elements.specs.Lists.{Bytes}
 use Rattle.rules.specs.Book.{laid, recordsOf, records}
 use Rattle.rules.specs.Files.{Name, namesPath, namesOf}
-use Rattle.rules.specs.Render.{rCia, rOd, rDirectory, framing, rDirectories, used, render}
+use Rattle.rules.specs.Render.{Renderer, rCia, rOd, rDirectory, rRecordIn, rLinear, framing, rNamed, rFile, rDirectories, used, render}
 use Rattle.rules.specs.Layouts as layouts
 use Rattle.rules.specs.Layouts.{cia-fine}
 use Rattle.rules.specs.FileLayouts as filing
-use Rattle.rules.specs.FileLayouts.{od-fine, directory-fine}
-use Rattle.rules.specs.Bytewise.{AllB, Outs, PayB, b-append, b-drop, b-get}
+use Rattle.rules.specs.FileLayouts.{od-fine, directory-fine, record-fine}
+use Rattle.rules.specs.Bytewise.{AllB, Outs, out, PayB, b-append, b-drop, b-get, lengthed-b, either-b, from-b, all-b}
 
 cia-b : Outs rCia
 cia-b = layouts.cia .lawful cia-fine .clean
@@ -26,6 +26,14 @@ od-b = filing.od .lawful od-fine .clean
 directory-b : Outs rDirectory
 unfolding rDirectory
 directory-b = filing.directory 0 .lawful (directory-fine 0) .clean
+
+record-b : Outs rRecordIn
+unfolding rRecordIn
+record-b = lengthed-b (filing.recordIn 0 .lawful (record-fine 0) .clean)
+
+linear-b : Outs rLinear
+unfolding rLinear
+linear-b = from-b (λ k p a. all-b (0x011a ∷ []) record-b)
 
 framing-b : (kind : ℕ) (b : List ℕ) → AllB b → AllB (framing kind b)
 unfolding framing recordBytes
@@ -41,14 +49,19 @@ unfolding namesOf
 names-b [] h = tt
 names-b (r ∷ rs) h = by-choose NamesB (namesPath (r .kind) (r .pay)) (λ _ _. (b-drop 2 (r .pay) (h .0), names-b rs (h .1))) (λ _ _. names-b rs (h .1))
 
+named-b : (kind : ℕ) (path : List ℕ) {q : Renderer} → AllB path → Outs q → Outs (rNamed kind path q)
+named-b kind path {q} h g rs a = let x = g rs a in out (framing-b kind (length path % 256 ∷ (path ++ q rs .bytes)) (omega arith, b-append path (q rs .bytes) h (x .bytes))) (x .left)
+
+file-b : (path : List ℕ) → AllB path → Outs (rFile path)
+unfolding rFile
+file-b path h = either-b (0x0118 ∷ []) (named-b 3 path h directory-b) (named-b 4 path h linear-b)
+
 directories-b : (ns : List Name) (rs : List Rec) → NamesB ns → PayB rs → AllB (rDirectories ns rs)
 unfolding rDirectories
 directories-b [] rs h g = tt
 directories-b (n ∷ ns) rs h g =
-    let x = directory-b rs g in
-    b-append (framing 3 (length (n .path) % 256 ∷ (n .path ++ rDirectory rs .bytes))) (rDirectories ns (rDirectory rs .left))
-    (framing-b 3 (length (n .path) % 256 ∷ (n .path ++ rDirectory rs .bytes)) (omega arith, b-append (n .path) (rDirectory rs .bytes) (h .0) (x .bytes)))
-    (directories-b ns (rDirectory rs .left) (h .1) (x .left))
+    let x = file-b (n .path) (h .0) rs g in
+    b-append (rFile (n .path) rs .bytes) (rDirectories ns (rFile (n .path) rs .left)) (x .bytes) (directories-b ns (rFile (n .path) rs .left) (h .1) (x .left))
 
 pay-take : (n : ℕ) (rs : List Rec) → PayB rs → PayB (take n rs)
 pay-take zero rs h = tt

@@ -19,7 +19,7 @@ use Rattle.rules.specs.declared.table.Row.{Row}
 use Rattle.elements.specs.declared.answer.Form.{Form}
 use Rattle.elements.specs.declared.answer.Form.the-variants as form
 use Rattle.elements.specs.Length.{shortest, wrap}
-use Rattle.rules.specs.Rendering.{Rendered, gives, Renderer, nothing, _next_, within, when, either, from, plain, unvalue, rRow, rRows, rKeep, rMany, rAll, rTimes, rFill}
+use Rattle.rules.specs.Rendering.{Rendered, gives, Renderer, nothing, _next_, within, rLengthed, when, either, from, plain, unvalue, rRow, rRows, rKeep, rMany, rAll, rTimes, rFill}
 use Rattle.rules.specs.Looks.{rowsLook}
 use Rattle.rules.specs.LookLaws.{avoids}
 use Rattle.rules.specs.TestLaws.{and-left, and-right}
@@ -117,6 +117,9 @@ next-b {q} {p} f g rs h = let x = f rs h in let y = g (q rs .left) (x .left) in 
 
 pub within-b : {q : Renderer} (t : ℕ) → t < 256 → Outs q → Outs (within t q)
 within-b {q} t h f rs g = let x = f rs g in out (wrap-b t (q rs .bytes) h (x .bytes)) (x .left)
+
+pub lengthed-b : {q : Renderer} → Outs q → Outs (rLengthed q)
+lengthed-b {q} f rs g = let x = f rs g in out (omega arith, (omega arith, x .bytes)) (x .left)
 
 pub out-test : (t : Bool) {x y : Unit {0} → Rendered} → ((u : Unit {0}) → Out (x u)) → ((u : Unit {0}) → Out (y u)) → Out (choose t x y)
 out-test t f g = by-choose Out t (λ u _. f u) (λ u _. g u)

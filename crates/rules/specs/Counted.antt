@@ -1,17 +1,17 @@
 -- What holds objects, said once as a layout is: with what is counted in it, of so many in all, after those before it. And the layouts of files.
-use Prim.Native.Nat.{ℕ, _-_, _≤_}
+use Prim.Native.Nat.{ℕ, _+_, _-_, _≤_}
 use mathlib.Core.List.{List, [], _∷_}
 use mathlib.Core.Bool.{Bool, true, false, not}
 use mathlib.Core.Option.{Option}
 use mathlib.Core.Path.{_≡_}
 use native.Mathlib.Omega.{arith}
-use lib.ListN.{getD}
+use lib.ListN.{length, getD}
 use lib.Dec.{ltb, leb, T}
 use Rattle.elements.specs.declared.fault.Fault.{Fault}
 use Rattle.elements.specs.declared.fault.Fault.the-variants.{NotDue}
 use Rattle.elements.specs.Choice.{choose}
 use Rattle.rules.specs.Reading.{Rec, rec, fails, also, _then_, Reader, Body}
-use Rattle.rules.specs.Parts.{element, repeat, toEnd}
+use Rattle.rules.specs.Parts.{element, repeat, upTo, toEnd}
 use Rattle.rules.specs.Rulings.{counts}
 use Rattle.rules.specs.Looks.{Look, look, seqLook, manyLook, fillLook}
 use Rattle.rules.specs.Rendering.{Renderer, _next_, within, from, rAll, rFill}
@@ -26,7 +26,7 @@ use Rattle.rules.specs.GrammarLaws as exact
 use Rattle.rules.specs.GrammarLaws.{tags, close, isClose, inside-law}
 use Rattle.rules.specs.NumberedLaws as laws
 use Rattle.rules.specs.Bytewise.{b-get, within-b, from-b}
-use Rattle.rules.specs.Lawful.{LawfulCounted, LawfulFile, isFree, closed, listed-lawful, filed-lawful}
+use Rattle.rules.specs.Lawful.{LawfulCounted, LawfulFile, isFree, closed, listed-lawful, filed-lawful, single-lawful}
 pub use Rattle.rules.specs.Lawful.{frontOf, ahead, rAhead, partAhead, aheadLook, Short, Solid}
 use Rattle.rules.specs.Layout.{Layout}
 
@@ -81,13 +81,26 @@ filed f kind P = record {
   lawful = λ z. filed-lawful (P .lawful (z .0)) f kind (z .1) (z .2) (z .3) (z .4) (z .5) (z .6) (z .7);
 }
 
+-- the same of at most one: a second is g
+abbrev pub single : Fault → Option Rec → ℕ → Counted → FileLayout
+single g f kind P = record {
+  most = P .most;
+  part = grammar.with (filed f kind P .part) (λ x. length (x .0) ≤ 1);
+  count = filed f kind P .count;
+  read = λ s k. ahead f (λ end at. repeat (toFill s) (upTo (k + 1) g (P .read s)) (end - at) k end at) then fill s kind;
+  render = filed f kind P .render;
+  kinds = filed f kind P .kinds;
+  Fine = filed f kind P .Fine × ((x : P .part .Of) → P .count x ≡ 1) × T (ofReading g);
+  lawful = λ z. single-lawful (P .lawful (z .0 .0)) f kind (z .0 .1) (z .0 .2) (z .0 .3) (z .0 .4) (z .0 .5) (z .0 .6) (z .0 .7) g (z .1) (z .2);
+}
+
 -- an element with one of these tags, behind a record that tells x and its tag: counted by its place, and one too many is f
 abbrev pub numberedBody : ℕ → (ℕ → Bool) → (ℕ → Layout) → ℕ → List ℕ → ℕ → Body
 numberedBody kind which P x s t at a e = choose (which t) (λ _. counts at (also (rec kind (x ∷ t ∷ []) ∷ []) [] (P t .read s 0 e a))) (λ _. fails NotDue at)
 
 pub numbered-lawful : (most : ℕ) (f : Fault) (kind : ℕ) (which : ℕ → Bool) (P : ℕ → ℕ → Layout) (x : ℕ) → ((y t : ℕ) → P y t .Fine × T (under (P y t .kinds) (P 0 0 .kinds)) × T (isClose (P y t .tags .stop))) → ((t : ℕ) → which t ≡ true → LowTag t) →
     T (leb (P 0 0 .kinds .credit) 0) → T (ltb kind 65536) → 1 ≤ most → T (ofReading f) →
-    LawfulCounted most (one (grammar.numbered kind which x (λ t. P x t .part))) (λ _. 1) (λ s k end at. choose (ltb k most) (λ _. element s (numberedBody kind which (P x) x s) end at) (λ _. fails f at))
+    LawfulCounted most (one (grammar.numbered kind which x (λ t. P x t .part))) (λ _. 1) (λ s. upTo most f (λ _. element s (numberedBody kind which (P x) x s)))
     (from (λ k p. within (getD p 1 0) (P (getD p 0 0) (getD p 1 0) .render))) (look (kind ∷ []) false (P 0 0 .kinds .stop) 0) (exact.look which false (tags []))
 numbered-lawful most f kind which P x fine real paid z m told = record {
   exact = λ s b l k h. laws.numbered-law kind which x (λ t. P x t .part) real s b l most f told (λ t. P x t .read s 0) (λ t. inside-law (P x t .lawful (fine x t .0) .exact s b l 0 (omega arith)) (closed (P x t .tags .stop) (fine x t .2))) m k h;
@@ -100,7 +113,7 @@ numbered most f kind which P x = record {
   most = most;
   part = one (grammar.numbered kind which x (λ t. P x t .part));
   count = λ _. 1;
-  read = λ s k end at. choose (ltb k most) (λ _. element s (numberedBody kind which (P x) x s) end at) (λ _. fails f at);
+  read = λ s. upTo most f (λ _. element s (numberedBody kind which (P x) x s));
   render = from (λ k p. within (getD p 1 0) (P (getD p 0 0) (getD p 1 0) .render));
   kinds = look (kind ∷ []) false (P 0 0 .kinds .stop) 0;
   tags = exact.look which false (tags []);

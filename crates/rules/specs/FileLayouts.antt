@@ -1,4 +1,4 @@
--- EF.OD and a directory file, each said once.
+-- EF.OD, a transparent directory file and a record of a record file, each said once.
 use Prim.Native.Nat.{ℕ}
 use mathlib.Core.List.{[]}
 use mathlib.Core.Bool.{Bool, true, false, _||_, _&&_}
@@ -7,13 +7,14 @@ use mathlib.Core.Path.{_≡_, refl}
 use native.Mathlib.Omega.{arith}
 use lib.Dec.{leb, eqb}
 use borrow.Author.Tests.{leb-true, eqb-true}
+use Rattle.elements.specs.declared.fault.Fault.the-variants.{SecondObject}
 use Rattle.elements.specs.ChoiceLaws.{both-true}
 use Rattle.rules.specs.Reading.{rec}
 use Rattle.rules.specs.Parts.{element}
 use Rattle.rules.specs.Grammar.{one}
 use Rattle.rules.specs.GrammarLaws as exact
 use Rattle.rules.specs.GrammarLaws.{tags}
-use Rattle.rules.specs.Counted.{Counted, FileLayout, filed}
+use Rattle.rules.specs.Counted.{Counted, FileLayout, filed, single}
 use Rattle.rules.specs.Layouts.{insides}
 use Rattle.rules.specs.Entries.{objectTag, object, contextTag, item, inEntry, entryBody, rEntry}
 use Rattle.rules.specs.EntryLaws.{object-fine, entryLook, entry-lawful}
@@ -39,6 +40,10 @@ od = filed none 0x0107 entry
 -- "for each path entry 0118, its objects, its fill"
 abbrev pub directory : ℕ → FileLayout
 directory tag = filed (some (rec 0x0118 [])) 0x0107 (object tag)
+
+-- "A record holds one object or none, then fill"; "each record with 011A"; "17 where a record holds a second object"
+abbrev pub recordIn : ℕ → FileLayout
+recordIn tag = single SecondObject (some (rec 0x011a [])) 0x0107 (object tag)
 
 -- fill does not begin as they do
 context-real : (t : ℕ) → contextTag t ≡ true → (t ≡ 0 → ⊥) × (t ≡ 0xff → ⊥)
@@ -66,3 +71,7 @@ od-fine = search (tt, context-real)
 pub directory-fine : (tag : ℕ) → directory tag .Fine
 unfolding object insides
 directory-fine tag = search (tt, object-fine, object-real)
+
+pub record-fine : (tag : ℕ) → recordIn tag .Fine
+unfolding object insides
+record-fine tag = (directory-fine tag, (λ _. refl), tt)

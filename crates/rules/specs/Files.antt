@@ -1,4 +1,4 @@
--- "House records" and "Refusals and their places" of document 01: files, their frames, and the whole dump.
+-- "House records" and "Refusals and their places" of document 01, record files of document 02: files, their frames, and the whole dump.
 use Prim.Native.Nat.{ℕ, zero, suc, _+_, _-_, _*_}
 use mathlib.Core.List.{List, [], _∷_, _++_, map}
 use mathlib.Core.Bool.{Bool, true, false, _||_, _&&_}
@@ -6,19 +6,18 @@ use lib.ListN.{length, getD, drop}
 use lib.Seq.{slice}
 use lib.Dec.{ltb, leb, eqb}
 use Rattle.elements.specs.declared.fault.Fault.{Fault}
-use Rattle.elements.specs.declared.fault.Fault.the-variants.{DumpSize, RecordBroken, RecordMissing, RecordKind, FileLength, PathLength, PathTwice, FileDiffers, FileMissing, FileExtra, AuthIdTwice}
+use Rattle.elements.specs.declared.fault.Fault.the-variants.{DumpSize, RecordBroken, RecordMissing, RecordKind, FileLength, PathLength, RecordOver, PathTwice, FileDiffers, FileMissing, FileExtra, AuthIdTwice}
 use Rattle.elements.specs.declared.answer.Head.{Head}
 use Rattle.elements.specs.declared.answer.Head.the-variants.{At, No}
 use Rattle.elements.specs.Choice.{choose}
 use Rattle.elements.specs.Header.{header}
 use Rattle.rules.specs.declared.table.Need.the-variants.{Required}
-use Rattle.rules.specs.Reading.{Rec, Res, took, fails, Reader, Body}
-use Rattle.rules.specs.Parts.{component, counted}
+use Rattle.rules.specs.Reading.{Rec, rec, Res, took, fails, also, Reader, Body}
+use Rattle.rules.specs.Parts.{component, counted, repeat, toEnd}
 use Rattle.rules.specs.Tables.{ownIdRow}
 pub use Rattle.rules.specs.Fills.{toFill, beforeFill, onlyFill}
 unfoldable pub use Rattle.rules.specs.Fills.{filled, fill}
 unfoldable pub use Rattle.rules.specs.Entries.{namedPath, entryInside, entryBody}
-unfoldable pub use Rattle.rules.specs.Objects.{objects}
 use Rattle.rules.specs.FileLayouts as filing
 use Rattle.rules.specs.Layout.{bodyOf}
 use Rattle.rules.specs.Layouts as layouts
@@ -28,9 +27,10 @@ pub record Name : Type 0 where
   pub tag : ℕ
   pub path : List ℕ
 
--- a file of the dump: its frame's place, where its path starts, where the file starts and ends
+-- a file of the dump: its frame's place and kind, where its path starts, where the file starts and ends
 pub record File : Type 0 where
   pub place : ℕ
+  pub kind : ℕ
   pub named : ℕ
   pub start : ℕ
   pub stop : ℕ
@@ -79,46 +79,71 @@ module _ (s : List ℕ) where
   abbrev pub cia : Reader
   cia = layouts.cia .read s 0
 
-  -- EF.OD, and a directory file after k objects
+  -- EF.OD; after k objects, a transparent file and a record of a record file
   unfoldable pub od : Reader
   od = filing.od .read s 0
 
   unfoldable pub directory : ℕ → ℕ → Reader
   directory entry k = filing.directory entry .read s k
 
+  unfoldable pub recordIn : ℕ → ℕ → Reader
+  recordIn entry k = filing.recordIn entry .read s k
+
   abbrev pub two : ℕ → ℕ
   two at = getD s at 0 + 256 * getD s (at + 1) 0
 
-  -- the record at a place, of the kind that is due, whole; `inner` takes what stands in it
-  unfoldable pub frameOf : ℕ → (ℕ → ℕ → FrameRead) → ℕ → FrameRead
-  frameOf kind inner at =
+  -- "each a 2-byte length and its bytes": where the record at a place of a record file ends
+  abbrev pub recordEnd : ℕ → ℕ
+  recordEnd at = at + 2 + two at
+
+  -- none runs over: one after the other, they end where the file ends
+  unfoldable pub fits : ℕ → ℕ → ℕ → Bool
+  fits zero stop at = eqb at stop
+  fits (suc g) stop at = choose (ltb at stop) (λ _. fits g stop (recordEnd at)) (λ _. eqb at stop)
+
+  -- "The book opens such a file with 0119": its records in turn, after k objects
+  unfoldable pub linear : ℕ → ℕ → Reader
+  linear entry k end at = also (rec 0x0119 [] ∷ []) [] (repeat toEnd (λ j _ i. recordIn entry j (recordEnd i) (i + 2)) (end - at) k end at)
+
+  -- the record at a place, of one of the kinds that are due, whole; `inner` takes its kind and what stands in it
+  unfoldable pub frameOf : ℕ → ℕ → (ℕ → ℕ → ℕ → FrameRead) → ℕ → FrameRead
+  frameOf low high inner at =
       choose (leb (length s) at) (λ _. broken RecordMissing at)
       (λ _. choose (ltb (length s) (at + 4)) (λ _. broken RecordBroken at)
       (λ _. choose (ltb (two at) 2) (λ _. broken RecordBroken at)
       (λ _. choose (ltb (length s) (at + 2 + two at)) (λ _. broken RecordBroken at)
-      (λ _. choose (eqb (two (at + 2)) kind) (λ _. inner (at + 4) (at + 2 + two at))
+      (λ _. choose (leb low (two (at + 2)) && leb (two (at + 2)) high) (λ _. inner (two (at + 2)) (at + 4) (at + 2 + two at))
       (λ _. broken RecordKind at)))))
 
   -- "A file is at most 16,383 bytes": from `start` to `stop`, behind n bytes of path length and path
-  unfoldable pub fileIn : ℕ → ℕ → ℕ → ℕ → FrameRead
-  fileIn at n start stop =
+  unfoldable pub fileIn : ℕ → ℕ → ℕ → ℕ → ℕ → FrameRead
+  fileIn at kind n start stop =
       choose (ltb stop (start + n)) (λ _. broken PathLength at)
       (λ _. choose (ltb 16383 (stop - (start + n))) (λ _. broken FileLength at)
-      (λ _. framed (record { place = at; named = start + 1; start = start + n; stop = stop })))
+      (λ _. framed (record { place = at; kind = kind; named = start + 1; start = start + n; stop = stop })))
 
   unfoldable pub frame : ℕ → ℕ → FrameRead
-  frame kind at = frameOf kind (λ a e. fileIn at 0 a e) at
+  frame kind at = frameOf kind kind (λ k a e. fileIn at k 0 a e) at
 
   -- "one byte of path length 1 to 64, path, directory file"
-  unfoldable pub namedFile : ℕ → ℕ → ℕ → FrameRead
-  namedFile at a e =
+  unfoldable pub namedFile : ℕ → ℕ → ℕ → ℕ → FrameRead
+  namedFile at kind a e =
       choose (leb e a) (λ _. broken PathLength at)
       (λ _. choose (ltb (getD s a 0) 1) (λ _. broken PathLength at)
       (λ _. choose (ltb 64 (getD s a 0)) (λ _. broken PathLength at)
-      (λ _. fileIn at (1 + getD s a 0) a e)))
+      (λ _. fileIn at kind (1 + getD s a 0) a e)))
 
+  -- "A new dump kind 0004" beside 0003
   unfoldable pub namedFrame : ℕ → FrameRead
-  namedFrame at = frameOf 3 (namedFile at) at
+  namedFrame at = frameOf 3 4 (namedFile at) at
+
+  -- "2 also covers a record length that runs over, at the dump record"
+  abbrev pub whole : FrameRead → FrameRead
+  whole (broken x p) = broken x p
+  whole (framed f) =
+      choose (eqb (f .kind) 3) (λ _. framed f)
+      (λ _. choose (fits (f .stop - f .start) (f .stop) (f .start)) (λ _. framed f)
+      (λ _. broken RecordOver (f .place)))
 
   abbrev pub consFile : File → Files → Files
   consFile f (files fs) = files (f ∷ fs)
@@ -128,10 +153,10 @@ module _ (s : List ℕ) where
   moreFiles (framed f) k = consFile f (k (f .stop))
   moreFiles (broken x p) k = brokenAt x p
 
-  -- "then records 0003", to the dump's end
+  -- "then records 0003" and 0004, to the dump's end
   unfoldable pub frames : ℕ → ℕ → Files
   frames zero at = choose (ltb at (length s)) (λ _. brokenAt RecordBroken at) (λ _. files [])
-  frames (suc g) at = choose (ltb at (length s)) (λ _. moreFiles (namedFrame at) (λ n. frames g n)) (λ _. files [])
+  frames (suc g) at = choose (ltb at (length s)) (λ _. moreFiles (whole (namedFrame at)) (λ n. frames g n)) (λ _. files [])
 
   abbrev pub pathOf : File → List ℕ
   pathOf f = slice (f .named) (f .start) s
@@ -165,11 +190,15 @@ module _ (s : List ℕ) where
   follow (n ∷ ns) [] = wrongAt FileMissing (length s)
   follow (n ∷ ns) (f ∷ fs) = choose (equal (n .path) (pathOf f)) (λ _. follow ns fs) (λ _. wrongAt FileDiffers (f .place))
 
+  -- a file after k objects, transparent or of records
+  unfoldable pub fileOf : ℕ → ℕ → File → Res
+  fileOf entry k f = choose (eqb (f .kind) 3) (λ _. directory entry k (f .stop) (f .start)) (λ _. linear entry k (f .stop) (f .start))
+
   -- the files in turn, after k objects
   unfoldable pub directories : List Name → List File → ℕ → Res
   directories [] fs k = took [] [] 0
   directories (n ∷ ns) [] k = took [] [] 0
-  directories (n ∷ ns) (f ∷ fs) k = counted (directory (n .tag) k (f .stop) (f .start)) (λ c _. directories ns fs (k + c))
+  directories (n ∷ ns) (f ∷ fs) k = counted (fileOf (n .tag) k f) (λ c _. directories ns fs (k + c))
 
 -- one of these is equal to it
 abbrev pub met : List ℕ → List (List ℕ) → Bool

@@ -12,15 +12,15 @@ use lib.Seq.{slice, slice-empty, length-slice}
 use lib.Dec.{ltb, eqb, T, T-not}
 use borrow.Author.Tests.{ltb-true, ltb-false, lt-ltb, le-ltb, eqb-true, eq-eqb, ne-eqb}
 use Rattle.elements.specs.declared.fault.Fault.{Fault}
-use Rattle.elements.specs.ChoiceLaws.{by-choose}
+use Rattle.elements.specs.ChoiceLaws.{by-choose, by-less}
 use Rattle.elements.specs.Lists.{Bytes, Begins, begins, cons}
 use Rattle.elements.specs.Put.{le16}
 use Rattle.rules.specs.Reading.{rec, Res, took, fails, andThen, _then_, Reader}
-use Rattle.rules.specs.Parts.{repeat, inside, surplus}
-use Rattle.rules.specs.Grammar.{Element, low, elementBytes, firstOf, IsElement, Part, _and_, many, rest, flat, AllMeet, total}
+use Rattle.rules.specs.Parts.{repeat, upTo, inside, surplus}
+use Rattle.rules.specs.Grammar.{Element, low, elementBytes, firstOf, IsElement, Part, _and_, with, many, rest, flat, AllMeet, total}
 use Rattle.rules.specs.ElementLaws.{is-end, head-complete}
-use Rattle.rules.specs.FaultLaws.{Told}
-use Rattle.rules.specs.GrammarLaws.{Starts, without, begun, tags, close, Look, look, Reads, refuses, takes, Goes, then-goes, whole-reads, whole-goes, Law, BodyLaw, Plain, seq-also, seq-reads, by-head}
+use Rattle.rules.specs.FaultLaws.{ofReading, Told}
+use Rattle.rules.specs.GrammarLaws.{Stop, Starts, without, begun, tags, close, Look, look, Reads, refuses, takes, Goes, then-goes, whole-reads, whole-goes, Law, BodyLaw, Plain, seq-also, seq-reads, by-head}
 use Rattle.rules.specs.ItemLaws.{lift-law, ManyReads, stopped, went, many-sound, many-complete}
 use Rattle.rules.specs.Fills as files
 use Rattle.rules.specs.Fills.{toFill, filled, beforeFill, onlyFill}
@@ -122,6 +122,75 @@ module _ {s : List ℕ} (small : length s ≤ 32768) (P : Part) (c : P .Of → �
     sound = λ at a e _ h l. filed-reads kind l (many-sound P c N (toFill s) f item (e - a) k e a i h l);
     complete = λ at a e _ h l x y r q. filed-complete kind k (x .0) (x .1) (y .0) (y .1) e a h l r q;
   }
+
+-- at most one element, and then fill: a second is g
+module _ {s : List ℕ} (small : length s ≤ 32768) (P : Part) (c : P .Of → ℕ) (once : (x : P .Of) → c x ≡ 1) (N : ℕ) (f : ℕ → Reader) {L : Look} (item : (j : ℕ) → j ≤ N → Law s (f j) P c j N L) (solid : T (not (L .empty))) (free : L .stop ≡ tags [])
+    (real : (t : ℕ) → L .first t ≡ true → (t ≡ 0 → ⊥) × (t ≡ 0xff → ⊥)) (g : Fault) (told : T (ofReading g)) where
+  -- up to m of them, and N in all: the lesser is M
+  record Least (m M : ℕ) : Type 0 where
+    first : M ≤ m
+    second : M ≤ N
+    both : (i : ℕ) → i ≤ m → i ≤ N → i ≤ M
+
+  fewer-reads : {m M : ℕ} → Least m M → (j : ℕ) → j < m → {t : Stop} {end at : ℕ} {r : Res} → Reads s P c j N t end at r → Reads s P c j M t end at r
+  fewer-reads v j h (refuses p o) = refuses p o
+  fewer-reads v j h (takes {rs = rs} {ms = ms} {n = n} k) = takes {rs = rs} {ms = ms} {n = n} (record {
+    it = k .it;
+    meets = k .meets;
+    low = k .low;
+    high = k .high;
+    bytes = k .bytes;
+    book = k .book;
+    counted = k .counted;
+    marks = k .marks;
+    room = v .both (j + c (k .it)) (omega (arith, once (k .it))) (k .room);
+    closes = k .closes;
+  })
+
+  up-to-law : {m M : ℕ} → Least m M → (j : ℕ) → j ≤ M → Law s (upTo m g f j) P c j M L
+  up-to-law {m} {M} v j h =
+      let l = item j (omega (arith, v .second)) in
+      record {
+        sound = λ end at i e. by-choose (Reads s P c j M (L .stop) end at) (ltb j m) (λ _ u. fewer-reads v j (ltb-true j m u) (l .sound end at i e)) (λ _ _. refuses at (omega arith, told));
+        starts = l .starts;
+        complete = λ end at i e x y r w q z. rw (lt-ltb j m (omega (arith, once x, v .first))) (l .complete end at i e x y (omega (arith, v .second)) w q z);
+      }
+
+  total-once : (xs : List (P .Of)) → total c xs ≡ length xs
+  total-once [] = refl
+  total-once (x ∷ xs) = omega (arith, once x, total-once xs)
+
+  abbrev Few : List (P .Of) × card.fill 0 .Of → Type 0
+  Few x = length (x .0) ≤ 1
+
+  single-reads : (kind : ℕ) {k M : ℕ} → Least (k + 1) M → {end at : ℕ} {r : Res} → Reads s (many P and card.fill kind) (λ x. total c (x .0)) k M close end at r → Reads s (with (many P and card.fill kind) Few) (λ x. total c (x .0)) k N close end at r
+  single-reads kind v (refuses p o) = refuses p o
+  single-reads kind v (takes {rs = rs} {ms = ms} {n = n} k) = takes {rs = rs} {ms = ms} {n = n} (record {
+    it = k .it;
+    meets = (k .meets, omega (arith, total-once (k .it .0), k .room, v .first));
+    low = k .low;
+    high = k .high;
+    bytes = k .bytes;
+    book = k .book;
+    counted = k .counted;
+    marks = k .marks;
+    room = omega (arith, k .room, v .second);
+    closes = k .closes;
+  })
+
+  pub single-law : (kind k : ℕ) → k ≤ N → BodyLaw s (inside ((λ end at. repeat (toFill s) (upTo (k + 1) g f) (end - at) k end at) then files.fill s kind)) (with (many P and card.fill kind) Few) (λ x. total c (x .0)) k N
+  single-law kind k i =
+      by-less k N
+      (λ l. go (k + 1) (omega arith) (record { first = le-refl (k + 1); second = omega arith; both = λ j a b. a }))
+      (λ l. go N i (record { first = omega arith; second = le-refl N; both = λ j a b. b }))
+    where
+      go : (M : ℕ) → k ≤ M → Least (k + 1) M → BodyLaw s (inside ((λ end at. repeat (toFill s) (upTo (k + 1) g f) (end - at) k end at) then files.fill s kind)) (with (many P and card.fill kind) Few) (λ x. total c (x .0)) k N
+      go M h v =
+          let l = filed-law small P c M (upTo (k + 1) g f) (up-to-law v) solid free real kind k h in
+          record {
+            sound = λ at a e i h l′. single-reads kind v (l .sound at a e i h l′);
+            complete = λ at a e i h l′ x y r q. l .complete at a e i h l′ x (y .0) (v .both (k + total c (x .0)) (omega (arith, total-once (x .0), y .1)) r) q;
+          }
 
 -- just one element, and then fill
 module _ (s : List ℕ) (bytes : Bytes s) (small : length s ≤ 32768) {P : Part} {p : Reader} {L : Look} (law : Plain s p P L) (solid : T (not (L .empty))) (free : L .stop ≡ tags []) (real : (t : ℕ) → L .first t ≡ true → (t ≡ 0 → ⊥) × (t ≡ 0xff → ⊥)) where

@@ -134,6 +134,19 @@ AllMeet f (x ∷ xs) = f x × AllMeet f xs
 abbrev pub many : Part → Part
 many P = record { Of = List (P .Of); bytes = flat (P .bytes); book = flat (P .book); Meets = AllMeet (P .Meets) }
 
+-- one or the other
+abbrev pub oneOf : Part → Part → Part
+oneOf P Q = record {
+  Of = P .Of ⊎ Q .Of;
+  bytes = λ x. elim x [ inl y ↦ P .bytes y | inr y ↦ Q .bytes y ];
+  book = λ x. elim x [ inl y ↦ P .book y | inr y ↦ Q .book y ];
+  Meets = λ x. elim x [ inl y ↦ P .Meets y | inr y ↦ Q .Meets y ];
+}
+
+-- "a 2-byte length and its bytes"
+abbrev pub lengthed : Part → Part
+lengthed P = record { Of = P .Of; bytes = λ x. le16 (length (P .bytes x)) ++ P .bytes x; book = P .book; Meets = P .Meets }
+
 -- a sealed element whose first tag byte is one of these, behind what stands in front of it in its record
 abbrev pub sealedOne : (ℕ → Bool) → ℕ → (ℕ → List ℕ) → Item
 sealedOne which kind front = record {

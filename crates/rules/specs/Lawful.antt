@@ -21,7 +21,7 @@ use Rattle.rules.specs.declared.table.Need.the-variants.{Required}
 use Rattle.rules.specs.declared.table.Row.{Row}
 use Rattle.rules.specs.Reading.{Rec, rec, Res, took, fails, also, andThen, _then_, Reader, Body}
 use Rattle.rules.specs.Parts as parts
-use Rattle.rules.specs.Parts.{component, components, repeat, toEnd, inside, keep}
+use Rattle.rules.specs.Parts.{component, components, repeat, upTo, toEnd, inside, keep}
 use Rattle.rules.specs.Looks.{Look, look, seqLook, elemLook, offerLook, restLook, manyLook, leastLook, joinLook, rowsLook, fillLook}
 use Rattle.rules.specs.Rendering.{Renderer, _next_, within, when, either, from, plain, rRows, rKeep, rAll, rFill}
 use Rattle.rules.specs.Fills.{toFill, fill, beforeFill, onlyFill}
@@ -36,7 +36,7 @@ use Rattle.rules.specs.GrammarLaws.{Stop, tags, close, isClose, Plain, P
 use Rattle.rules.specs.FieldLaws as exact-fields
 use Rattle.rules.specs.FieldLaws.{rowsClear, fields-law}
 use Rattle.rules.specs.ItemLaws.{narrow, or-law, sealed-law, list-law, behind-body, lift-law, recount, total-none}
-use Rattle.rules.specs.FillLaws.{filed-law, alone-law}
+use Rattle.rules.specs.FillLaws.{filed-law, single-law, alone-law}
 use Rattle.rules.specs.Bytewise.{Outs, next-b, within-b, when-b, either-b, from-b, plain-b, keep-b, rows-b, all-b, fill-b}
 
 -- what holds of a layout's faces together
@@ -352,4 +352,15 @@ module _ {N : ℕ} {P : Part} {c : P .Of → ℕ} {p : List ℕ → ℕ → Read
     exact = λ s b m k h. ahead-exact f (λ end at. repeat (toFill s) (p s) (end - at) k end at) (fill s kind) (filed-law m P c N (p s) (λ j i. x .exact s b m j i) n (free (A .stop) u) real kind k h);
     renders = ahead-renders f z (many-renders t (x .renders)) (fill-renders kind w) v;
     clean = next-b (ahead-clean f (all-b (L .first) (x .clean))) (fill-b kind);
+  }
+
+  -- the same of at most one
+  pub single-lawful : (f : Option Rec) (kind : ℕ) → Short f → T (repeats L) → T (not (A .empty)) → T (isFree (A .stop)) → Solid (A .first) → T (ltb kind 65536) → T (avoids (kind ∷ []) (aheadLook f (manyLook L) .stop)) →
+      (g : Fault) → ((x : P .Of) → c x ≡ 1) → T (ofReading g) →
+      LawfulFile N (grammar.with (partAhead f (grammar._and_ (many P) (grammar.fill kind))) (λ x. length (x .0) ≤ 1)) (λ x. total c (x .0)) (λ s k. ahead f (λ end at. repeat (toFill s) (upTo (k + 1) g (p s)) (end - at) k end at) then fill s kind)
+      (rAhead f (rAll (L .first) q) next rFill kind) (seqLook (aheadLook f (manyLook L)) (fillLook kind))
+  single-lawful f kind z t n u real w v g once told = record {
+    exact = λ s b m k h. ahead-exact f (λ end at. repeat (toFill s) (upTo (k + 1) g (p s)) (end - at) k end at) (fill s kind) (single-law m P c once N (p s) (λ j i. x .exact s b m j i) n (free (A .stop) u) real g told kind k h);
+    renders = with-renders (λ x. length (x .0) ≤ 1) (filed-lawful f kind z t n u real w v .renders);
+    clean = filed-lawful f kind z t n u real w v .clean;
   }

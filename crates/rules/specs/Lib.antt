@@ -41,6 +41,7 @@ pub mod Computing
 pub mod Examples
 pub mod RowCases
 pub mod Refusals
+pub mod RecordFiles
 pub mod BookLaws
 pub mod ByteLaws
 pub mod Blocks

@@ -42,7 +42,7 @@ module _ (kind : ℕ) (which : ℕ → Bool) (x : ℕ) (P : ℕ → Part) (real 
     first : (i : numbered kind which x P .Of) → numbered kind which x P .Meets i → which (firstOf (numbered kind which x P .shape i)) ≡ true
     first i y = rw (low-first (i .0) (P (i .0) .bytes (i .1)) (real (i .0) (y .0))) (y .0)
 
-    pub numbered-law : 1 ≤ N → (k : ℕ) → k ≤ N → Law s (λ end at. choose (ltb k N) (λ _. parts.element s body end at) (λ _. fails f at)) (one (numbered kind which x P)) (λ _. 1) k N (exact.look which false (tags []))
+    pub numbered-law : 1 ≤ N → (k : ℕ) → k ≤ N → Law s (parts.upTo N f (λ _. parts.element s body) k) (one (numbered kind which x P)) (λ _. 1) k N (exact.look which false (tags []))
     numbered-law m k h = go (ltb k N) refl
       where
         go : (b : Bool) → ltb k N ≡ b → Law s (λ end at. choose b (λ _. parts.element s body end at) (λ _. fails f at)) (one (numbered kind which x P)) (λ _. 1) k N (exact.look which false (tags []))

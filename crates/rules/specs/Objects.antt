@@ -1,11 +1,9 @@
 -- The readers of what stands in an object, out of their layouts.
-use Prim.Native.Nat.{ℕ, _-_}
+use Prim.Native.Nat.{ℕ}
 use mathlib.Core.List.{List}
-use mathlib.Core.Bool.{Bool}
 use Rattle.rules.specs.declared.table.Class.{Class}
 use Rattle.rules.specs.declared.table.ObjectType.{ObjectType}
 use Rattle.rules.specs.Reading.{Reader, Body}
-use Rattle.rules.specs.Parts.{repeat}
 pub use Rattle.rules.specs.Rulings.{has, same, paired, flagged, counts, quiet, listed}
 unfoldable pub use Rattle.rules.specs.Rulings.{identified}
 unfoldable pub use Rattle.rules.specs.Conditions.{conditionAs, conditionBody}
@@ -68,7 +66,3 @@ module _ (s : List ℕ) where
   -- the object due at a place, after k objects of the dump
   abbrev pub object : ℕ → ℕ → Reader
   object entry k = entries.object entry .read s k
-
-  -- objects up to the end of a list, or up to the fill of a file, after k objects
-  unfoldable pub objects : (ℕ → ℕ → Bool) → ℕ → ℕ → Reader
-  objects more entry k end at = repeat more (entries.object entry .read s) (end - at) k end at

@@ -116,6 +116,10 @@ unfoldable pub repeat : (ℕ → ℕ → Bool) → (ℕ → Reader) → ℕ → 
 repeat more f zero k end at = choose (more end at) (λ _. fails Missing end) (λ _. took [] [] at)
 repeat more f (suc g) k end at = choose (more end at) (λ _. counted (f k end at) (λ c n. repeat more f g (k + c) end n)) (λ _. took [] [] at)
 
+-- up to m of them: one more is f, at it
+abbrev pub upTo : ℕ → Fault → (ℕ → Reader) → ℕ → Reader
+upTo m f p k end at = choose (ltb k m) (λ _. p k end at) (λ _. fails f at)
+
 -- up to the end of the container
 abbrev pub toEnd : ℕ → ℕ → Bool
 toEnd end at = ltb at end

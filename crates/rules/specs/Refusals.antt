@@ -9,7 +9,7 @@ pub record Case : Type 0 where
   pub number : ℕ
   pub place : ℕ
 
-abbrev case : ℕ → ℕ → List ℕ → Case
+abbrev pub case : ℕ → ℕ → List ℕ → Case
 case n p d = record { dump = d; number = n; place = p }
 
 pub table : List Case

@@ -7,7 +7,7 @@ use Rattle.rules.specs.declared.table.Class.{Class}
 use Rattle.rules.specs.declared.table.ObjectType.{ObjectType}
 use Rattle.rules.specs.Reading.{Rec}
 use Rattle.rules.specs.Files.{Name, namesOf}
-pub use Rattle.rules.specs.Rendering.{Rendered, gives, Renderer, nothing, _next_, within, when, either, from, plain}
+pub use Rattle.rules.specs.Rendering.{Rendered, gives, Renderer, nothing, _next_, within, rLengthed, when, either, from, plain}
 unfoldable pub use Rattle.rules.specs.Rendering.{unvalue, rRow, rRows, rKeep, rMany, rAll, rTimes, rFill}
 unfoldable pub use Rattle.rules.specs.Conditions.{rConditionAs}
 use Rattle.rules.specs.Conditions as conditions
@@ -62,12 +62,27 @@ rOd = filing.od .render
 unfoldable pub rDirectory : Renderer
 rDirectory = filing.directory 0 .render
 
+-- a record of a record file, and such a file
+unfoldable pub rRecordIn : Renderer
+rRecordIn = rLengthed (filing.recordIn 0 .render)
+
+unfoldable pub rLinear : Renderer
+rLinear = from (λ k p. rAll (0x011a ∷ []) rRecordIn)
+
 unfoldable pub framing : ℕ → List ℕ → List ℕ
 framing kind b = recordBytes kind b
 
+-- a file in its record, behind its path
+abbrev pub rNamed : ℕ → List ℕ → Renderer → Renderer
+rNamed kind path q rs = let x = q rs in gives (framing kind (length path % 256 ∷ (path ++ x .bytes))) (x .left)
+
+-- transparent where 0118 comes next, else of records
+unfoldable pub rFile : List ℕ → Renderer
+rFile path = either (0x0118 ∷ []) (rNamed 3 path rDirectory) (rNamed 4 path rLinear)
+
 unfoldable pub rDirectories : List Name → List Rec → List ℕ
 rDirectories [] rs = []
-rDirectories (n ∷ ns) rs = let x = rDirectory rs in framing 3 (length (n .path) % 256 ∷ (n .path ++ x .bytes)) ++ rDirectories ns (x .left)
+rDirectories (n ∷ ns) rs = let x = rFile (n .path) rs in x .bytes ++ rDirectories ns (x .left)
 
 -- the records of b before what is left of them
 abbrev pub used : List Rec → List Rec → List Rec

@@ -19,8 +19,8 @@ use Rattle.rules.specs.declared.table.Need.{Need}
 use Rattle.rules.specs.declared.table.Need.the-variants.{Required, Optional, Default}
 use Rattle.rules.specs.declared.table.Row.{Row}
 use Rattle.rules.specs.Looks.{Look, look, onlyIf, seqLook, elemLook, offerLook, restLook, manyLook, leastLook, joinLook, rowLook, rowsLook, fillLook}
-use Rattle.rules.specs.Rendering.{gives, Renderer, nothing, _next_, within, when, either, from, plain, unvalue, rRow, rRows, rKeep, rMany, rAll, rTimes, rFill}
-use Rattle.rules.specs.Grammar.{low, elementBytes, SealedRun, over, shallow, deep, Part, Item, empty, _and_, _or_, one, optional, slot, tagged, with, behind, sealedOne, raw, unlessEmpty, rest, flat, AllMeet, many, Worth, contentsOf, payOf, Fine, field, fields, fill}
+use Rattle.rules.specs.Rendering.{gives, Renderer, nothing, _next_, within, rLengthed, when, either, from, plain, unvalue, rRow, rRows, rKeep, rMany, rAll, rTimes, rFill}
+use Rattle.rules.specs.Grammar.{low, elementBytes, SealedRun, over, shallow, deep, Part, Item, empty, _and_, _or_, one, optional, slot, tagged, with, behind, sealedOne, raw, unlessEmpty, rest, flat, AllMeet, many, oneOf, lengthed, Worth, contentsOf, payOf, Fine, field, fields, fill}
 use Rattle.rules.specs.ElementLaws.{lowTag, LowTag, low-tag, wrap-is, element-long, same-element}
 use Rattle.rules.specs.ValueLaws.{count-le16, number-le32}
 use Rattle.rules.specs.LookLaws.{pay-first, Fresh, Begins, avoids, size, Laid, bodily, repeats, subset, implies, under, fresh-left, fresh-right, begins-fresh, begins-hard, begins-soft, begins-one, size-append, laid-append, when-none, when-some, fresh-subset, only, begins-many, begins-more, begins-later, apart, longer, not-empty, begins-subset, begins-seq, either-left, either-right, none, some}
@@ -111,6 +111,18 @@ module _ {P : Part} {q : Renderer} {L : Look} where
         begins = r .begins;
         bound = λ x m. omega (arith, r .bound x m, element-long (low t (P .bytes x)));
         laid = λ x m n h. r .laid x m n (omega (arith, element-long (low t (P .bytes x))));
+        tells = r .tells;
+      }
+
+  -- behind a length, which pays for eight bytes of the book
+  pub lengthed-renders : T (bodily L) → Renders P q L → Renders (lengthed P) (rLengthed q) (elemLook L)
+  lengthed-renders b r =
+      let c : L .credit ≤ 8 = leb→le (L .credit) 8 b in
+      record {
+        renders = λ x m w h. rw (r .renders x m w h) refl;
+        begins = r .begins;
+        bound = λ x m. omega (arith, r .bound x m);
+        laid = λ x m n h. r .laid x m n (omega arith);
         tells = r .tells;
       }
 
@@ -215,17 +227,17 @@ rest-renders kind out t = record { renders = made; begins = beginning; bound = b
     telling (x ∷ c) (y ∷ d) m l e = ap pay-first e
 
 -- one or the other
-pub or-renders : (I J : Item) {q p : Renderer} {L M : Look} → Renders (one I) q L → Renders (one J) p M → T (not (L .empty)) → T (not (M .empty)) → T (avoids (M .first) (L .first)) →
-    Renders (one (I or J)) (either (L .first) q p) (joinLook L M)
-or-renders I J {q} {p} {L} {M} f g d e a = record { renders = made; begins = beginning; bound = bounded; laid = lying; tells = telling }
+pub one-of-renders : {P Q : Part} {q p : Renderer} {L M : Look} → Renders P q L → Renders Q p M → T (not (L .empty)) → T (not (M .empty)) → T (avoids (M .first) (L .first)) →
+    Renders (oneOf P Q) (either (L .first) q p) (joinLook L M)
+one-of-renders {P} {Q} {q} {p} {L} {M} f g d e a = record { renders = made; begins = beginning; bound = bounded; laid = lying; tells = telling }
   where
     K : Part
-    K = one (I or J)
+    K = oneOf P Q
 
-    left : (i : I .Of) → I .Meets i → Begins (L .first) false (I .book i)
+    left : (i : P .Of) → P .Meets i → Begins (L .first) false (P .book i)
     left i m = begins-hard d (f .begins i m)
 
-    right : (j : J .Of) → J .Meets j → Begins (M .first) false (J .book j)
+    right : (j : Q .Of) → Q .Meets j → Begins (M .first) false (Q .book j)
     right j m = begins-hard e (g .begins j m)
 
     made : (x : K .Of) → K .Meets x → (w : List Rec) → Fresh (L .stop ++ M .stop) w → either (L .first) q p (K .book x ++ w) ≡ gives (K .bytes x) w
@@ -249,6 +261,19 @@ or-renders I J {q} {p} {L} {M} f g d e a = record { renders = made; begins = beg
     telling (inr i) (inr j) m l z = ap inr (g .tells i j m l z)
     telling (inl i) (inr j) m l z = absurd (apart a (left i m) (right j l) z)
     telling (inr i) (inl j) m l z = absurd (apart a (left j l) (right i m) (sym z))
+
+-- the same of elements
+pub or-renders : (I J : Item) {q p : Renderer} {L M : Look} → Renders (one I) q L → Renders (one J) p M → T (not (L .empty)) → T (not (M .empty)) → T (avoids (M .first) (L .first)) →
+    Renders (one (I or J)) (either (L .first) q p) (joinLook L M)
+or-renders I J f g d e a =
+    let r = one-of-renders f g d e a in
+    record {
+      renders = λ x. elim x [ inl i ↦ r .renders (inl i) | inr j ↦ r .renders (inr j) ];
+      begins = λ x. elim x [ inl i ↦ r .begins (inl i) | inr j ↦ r .begins (inr j) ];
+      bound = λ x. elim x [ inl i ↦ r .bound (inl i) | inr j ↦ r .bound (inr j) ];
+      laid = λ x. elim x [ inl i ↦ r .laid (inl i) | inr j ↦ r .laid (inr j) ];
+      tells = λ x y. elim x [ inl i ↦ elim y [ inl j ↦ r .tells (inl i) (inl j) | inr j ↦ r .tells (inl i) (inr j) ] | inr i ↦ elim y [ inl j ↦ r .tells (inr i) (inl j) | inr j ↦ r .tells (inr i) (inr j) ] ];
+    }
 
 -- no turn where no item comes
 many-none : (ks : List ℕ) (q : Renderer) (m : ℕ) (rs : List Rec) → Fresh ks rs → rMany ks q m rs ≡ gives [] rs

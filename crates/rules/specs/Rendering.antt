@@ -10,6 +10,7 @@ use Rattle.elements.specs.Boolean.{booleanBytes}
 use Rattle.elements.specs.Integer.{integerBytes}
 use Rattle.elements.specs.Bits.{flagBytes}
 use Rattle.elements.specs.Length.{wrap}
+use Rattle.elements.specs.Put.{le16}
 use Rattle.elements.specs.Sealed.{among}
 use Rattle.rules.specs.declared.table.Row.{Row}
 use Rattle.rules.specs.Reading.{Rec, count, number}
@@ -33,6 +34,10 @@ _next_ p q rs = let x = p rs in let y = q (x .left) in gives (x .bytes ++ y .byt
 
 abbrev pub within : ℕ → Renderer → Renderer
 within t q rs = let x = q rs in gives (wrap t (x .bytes)) (x .left)
+
+-- behind its length in two bytes
+abbrev pub rLengthed : Renderer → Renderer
+rLengthed q rs = let x = q rs in gives (le16 (length (x .bytes)) ++ x .bytes) (x .left)
 
 -- if the next record is of one of the kinds
 abbrev pub when : List ℕ → Renderer → Renderer

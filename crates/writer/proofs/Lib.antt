@@ -6,4 +6,5 @@ pub mod MakeCommonLaws
 pub mod MakeTypeLaws
 pub mod MakeObjectLaws
 pub mod MakeEntryLaws
+pub mod MakeLinearLaws
 pub mod RenderLaws

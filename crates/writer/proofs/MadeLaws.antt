@@ -7,17 +7,18 @@ use native.Mathlib.Omega.{arith}
 use lib.ListN.{length, getD, take, drop, set, length-append, length-set, take-append-drop, List·getD-append}
 use lib.Seq.{slice, drop-at, take-take, drop-drop, take-suc, slice-cons, slice-empty, set-at, getD-take, length-take-le, take-append-le, sets-eq}
 use borrow.Author.Tests.{lt-ltb, le-ltb}
-use Rattle.elements.specs.ChoiceLaws.{by-less}
+use Rattle.elements.specs.ChoiceLaws.{by-choose, by-less}
 use Rattle.rules.specs.BookLaws.{from-few}
 use Rattle.elements.specs.Length.{shortest, wrap}
 use Rattle.elements.specs.Lists.{join}
+use Rattle.elements.specs.Sealed.{among}
 use Rattle.elements.specs.Put.{Put}
 use Rattle.elements.specs.PutLaws.{put-none, put-put, put-length, put-fits, put-there}
 use Rattle.writer.specs.declared.made.Made.{Made}
 use Rattle.writer.specs.declared.made.Made.the-variants.{Took, Long}
 use Rattle.rules.specs.Reading.{Rec, rec}
 use Rattle.rules.specs.Files.{two}
-use Rattle.rules.specs.Render.{Rendered, gives, Renderer, _next_, when, from}
+use Rattle.rules.specs.Render.{Rendered, gives, Renderer, _next_, when, either, from}
 use Rattle.rules.specs.Book.{recordsFrom, Ends, nextIs}
 use Rattle.writer.specs.Making.{Walk, there, onto, Steps, Makes, makes, breaks, Making, Onward, Moved, Opened, begins, lacks, Ended, Closed}
 
@@ -83,7 +84,7 @@ behind-put {a} {c} {o} {q} {x} k f l =
     sym (drop-drop k q c) ∙ rw e (drop-drop k q a)
 
 -- the header in front of contents
-pub closed-up : {a c c′ d x : List ℕ} {o q p : ℕ} (k by : ℕ) (e : List ℕ) → Put a c (o + k) q x → q ≤ length a → q + by ≤ length a → k + by ≡ length e → Moved c c′ (o + k) q by → Put c′ d o p e → Put a d o (q + by) (e ++ x)
+closed-up : {a c c′ d x : List ℕ} {o q p : ℕ} (k by : ℕ) (e : List ℕ) → Put a c (o + k) q x → q ≤ length a → q + by ≤ length a → k + by ≡ length e → Moved c c′ (o + k) q by → Put c′ d o p e → Put a d o (q + by) (e ++ x)
 closed-up {a} {c} {c′} {d} {x} {o} {q} {p} z by e f l m n v g =
     let lc : length c ≡ length a = put-length f in
     let lo : o + z + by ≤ length c = omega (arith, f .at) in
@@ -261,8 +262,24 @@ module _ {c : List ℕ} {o k : ℕ} {f : List ℕ → List ℕ} (grows : (x : Li
   pub closed-short : {n q : ℕ} → m ≡ Took n q → q < o + k → Closed c c o k f m Long
   closed-short {n} {q} z l = record { is = λ b a i r w h g. breaks {w = gives (f (w .bytes)) (w .left)} (omega (arith, before h q (made-from g z) l, grows (w .bytes))) (makes-same g) }
 
-pub contents : {b a c : List ℕ} {i o k r n q : ℕ} {w : Rendered} {m : Made} → Opened (length a) o k r → Makes b a c i r w m → m ≡ Took n q → o + k ≤ q → Put a c (o + k) q (w .bytes)
+contents : {b a c : List ℕ} {i o k r n q : ℕ} {w : Rendered} {m : Made} → Opened (length a) o k r → Makes b a c i r w m → m ≡ Took n q → o + k ≤ q → Put a c (o + k) q (w .bytes)
 contents {q = q} h g z l = rw (behind h q l (omega (arith, made-room g z, makes-same g))) at (made-put g z)
+
+-- bytes in front that tell the contents' length, just as many as there is room for
+module _ (k : ℕ) (f : ℕ → List ℕ) (sized : (n : ℕ) → length (f n) ≡ k) where
+  pub front-grows : (x : List ℕ) → k + length x ≤ length (f (length x) ++ x)
+  front-grows x = omega (arith, sized (length x), length-append (f (length x)) x)
+
+  pub closed-front : (c : List ℕ) (o : ℕ) {m : Made} {n q p : ℕ} {d : List ℕ} → Ended (length c) m → m ≡ Took n q → o + k ≤ q → Put c d o p (f (q - (o + k))) → Closed c d o k (λ x. f (length x) ++ x) m (Took n q)
+  closed-front c o {m} {n} {q} {p} {d} l z h g = record {
+    is = λ b a i r w t e.
+        let u = contents t e z h in
+        let s : q ≤ length a = omega (arith, l .is n q z, makes-same e) in
+        let x : q - (o + k) ≡ length (w .bytes) = omega (arith, u .at) in
+        let v : q + 0 ≡ q = omega arith in
+        let y = closed-up k 0 (f (q - (o + k))) u s (omega arith) (omega (arith, sized (q - (o + k)))) (moved-same c (o + k) q 0 refl h (omega (arith, l .is n q z))) g in
+        makes {w = gives (f (length (w .bytes)) ++ w .bytes) (w .left)} (made-left e z) (rw (v, x) at y) (made-steps e z) s;
+  }
 
 -- an element's header
 pub wrap-grows : (tag : ℕ) (x : List ℕ) → 2 + length x ≤ length (wrap tag x)
@@ -294,13 +311,13 @@ module _ (c : List ℕ) (o tag : ℕ) {m : Made} {n q h : ℕ} (z : m ≡ Took n
 pub within-made : (tag : ℕ) (x : List ℕ) (l : List Rec) {b a c d : List ℕ} {i o r : ℕ} {m s : Made} → Opened (length a) o 2 r → Makes b a c i r (gives x l) m → Closed c d o 2 (wrap tag) m s → Makes b a d i o (gives (wrap tag x) l) s
 within-made tag x l h g e = closed-made h g e
 
--- an element takes what its contents take
-pub closed-onward : (tag : ℕ) {b a c d : List ℕ} {i o r : ℕ} {w : Rendered} {m s : Made} → Opened (length a) o 2 r → Makes b a c i r w m → Onward b i m → Closed c d o 2 (wrap tag) m s → Onward b i s
-closed-onward tag {b} {a} {c} {d} {i} {o} {r} {w} {m} {s} h g u e = record { is = λ n q z. go g u (closed-made h g e) z }
+-- with what stands in front of them, contents take what they take
+pub closed-onward : {f : List ℕ → List ℕ} {k : ℕ} → ((x : List ℕ) → k + length x ≤ length (f x)) → {b a c d : List ℕ} {i o r : ℕ} {w : Rendered} {m s : Made} → Opened (length a) o k r → Makes b a c i r w m → Onward b i m → Closed c d o k f m s → Onward b i s
+closed-onward {f} {k} grows {b} {a} {c} {d} {i} {o} {r} {w} {m} {s} h g u e = record { is = λ n q z. go g u (closed-made h g e) z }
   where
-    go : {w : Rendered} {m : Made} {n q : ℕ} → Makes b a c i r w m → Onward b i m → Makes b a d i o (gives (wrap tag (w .bytes)) (w .left)) s → s ≡ Took n q → length (recordsFrom b n) < length (recordsFrom b i)
+    go : {w : Rendered} {m : Made} {n q : ℕ} → Makes b a c i r w m → Onward b i m → Makes b a d i o (gives (f (w .bytes)) (w .left)) s → s ≡ Took n q → length (recordsFrom b n) < length (recordsFrom b i)
     go (makes {n = x} {q = y} l _ _ _) u v z = rw (sym (made-left v z) ∙ l) (u .is x y refl)
-    go (breaks {w} l _) u v z = absurd (omega (arith, made-put v z .at, made-room v z, makes-same v, over h (length (w .bytes)) (length (wrap tag (w .bytes))) l (wrap-grows tag (w .bytes))))
+    go (breaks {w} l _) u v z = absurd (omega (arith, made-put v z .at, made-room v z, makes-same v, over h (length (w .bytes)) (length (f (w .bytes))) l (grows (w .bytes))))
 
 -- by the next record
 module _ (k : ℕ) (p : Renderer) (b : List ℕ) (i : ℕ) {t : Bool} (e : t ≡ nextIs k (recordsFrom b i)) where
@@ -317,6 +334,27 @@ module _ (k : ℕ) (p : Renderer) (b : List ℕ) (i : ℕ) {t : Bool} (e : t ≡
 
   pub when-no : {a : List ℕ} {o : ℕ} → t ≡ false → i ≤ length b → o ≤ length a → Makes b a a i o (when (k ∷ []) p (recordsFrom b i)) (Took i o)
   when-no {a} {o} z h l = makes-as (makes-none b a i o h l) (sym (when-not (recordsFrom b i) (sym e ∙ z)))
+
+-- one way or the other by the next record
+module _ (k : ℕ) (q p : Renderer) (b : List ℕ) (i : ℕ) {t : Bool} (e : t ≡ nextIs k (recordsFrom b i)) where
+  either-is : (rs : List Rec) → nextIs k rs ≡ true → either (k ∷ []) q p rs ≡ q rs
+  either-is [] z = absurd (let y : _≡_ {A = ℕ} 0 1 = cc in omega arith)
+  either-is (x ∷ rs) z = rw z refl
+
+  either-not : (rs : List Rec) → nextIs k rs ≡ false → either (k ∷ []) q p rs ≡ p rs
+  either-not [] z = refl
+  either-not (x ∷ rs) z = rw z refl
+
+  pub either-yes : {a c : List ℕ} {o : ℕ} {r : Made} → t ≡ true → Makes b a c i o (q (recordsFrom b i)) r → Makes b a c i o (either (k ∷ []) q p (recordsFrom b i)) r
+  either-yes z m = makes-as m (sym (either-is (recordsFrom b i) (sym e ∙ z)))
+
+  pub either-no : {a c : List ℕ} {o : ℕ} {r : Made} → t ≡ false → Makes b a c i o (p (recordsFrom b i)) r → Makes b a c i o (either (k ∷ []) q p (recordsFrom b i)) r
+  either-no z m = makes-as m (sym (either-not (recordsFrom b i) (sym e ∙ z)))
+
+-- what holds of either way holds of the one that is taken
+pub by-either : (P : Rendered → Type 0) (ks : List ℕ) (q p : Renderer) (rs : List Rec) → P (q rs) → P (p rs) → P (either ks q p rs)
+by-either P ks q p [] f g = g
+by-either P ks q p (r ∷ rs) f g = by-choose P (among (r .kind) ks) (λ _ _. f) (λ _ _. g)
 
 -- a record that is next is there
 pub next-there : (b : List ℕ) (i k : ℕ) {t : Bool} → t ≡ nextIs k (recordsFrom b i) → t ≡ true → i + 4 ≤ length b

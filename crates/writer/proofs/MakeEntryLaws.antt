@@ -1,4 +1,4 @@
--- EF.OD's entries, made.
+-- EF.OD's entries and what is inside directory files, made.
 use Prim.Native.Nat.{ℕ, _+_, _<_, _≤_}
 use mathlib.Core.Path.{_≡_, refl, sym, _∙_}
 use mathlib.Core.List.{List}
@@ -8,11 +8,12 @@ use lib.Seq.{slice, slice-empty, length-slice}
 use borrow.Author.Tests.{lt-ltb, le-ltb, ne-eqb}
 use Rattle.elements.specs.Length.{wrap}
 use Rattle.writer.specs.declared.made.Made.{Made}
-use Rattle.rules.specs.Render.{Rendered, gives, within, rObjects, rInside, rEntryOf, rEntry}
+use Rattle.writer.specs.declared.made.Made.the-variants.{Took, Long}
+use Rattle.rules.specs.Render.{Rendered, gives, _next_, within, rFill, rObjects, rInside, rEntryOf, rEntry, rDirectory}
 use Rattle.rules.specs.Book.{recordsFrom, Ends}
 use Rattle.rules.specs.BookLaws.{name-path}
 use Rattle.writer.specs.Making.{Makes, Onward, Tail}
-use Rattle.writer.proofs.MadeLaws.{makes-as, makes-behind, made-steps, from-some, onward-one}
+use Rattle.writer.proofs.MadeLaws.{makes-as, makes-behind, made-steps, steps-then, from-some, onward-one}
 
 -- an entry's own bytes
 pub tail-none : (i e : ℕ) → e < i + 6 → Tail i e e
@@ -24,6 +25,14 @@ tail-some i e h = record { is = λ b l. name-path b i e }
 -- what is read behind the record at i takes that record
 pub onward-behind : {b a c : List ℕ} {i e o : ℕ} {w : Rendered} {r : Made} → Ends b i e → Makes b a c e o w r → Onward b i r
 onward-behind h m = onward-one h (λ n q z. made-steps m z)
+
+-- what does not fit leaves no place to go on from
+pub onward-none : (b : List ℕ) (i : ℕ) → Onward b i Long
+onward-none b i = record { is = λ n q z. absurd (let y : _≡_ {A = ℕ} 0 1 = cc in omega arith) }
+
+-- two parts behind the record at i take it too
+pub onward-both : {b a c d : List ℕ} {i e o n q : ℕ} {w v : Rendered} {r s : Made} → Ends b i e → Makes b a c e o w r → r ≡ Took n q → Makes b c d n q v s → Onward b i s
+onward-both h m z k = onward-one h (λ _ _ y. steps-then (made-steps m z) (made-steps k y))
 
 -- inside an entry
 module _ {b a c : List ℕ} {i e o : ℕ} (h : Ends b i e) {x : ℕ} (t : x ≡ getD (slice (i + 4) e b) 1 0) {r : Made} where
@@ -44,3 +53,8 @@ module _ {b a c : List ℕ} {i e o : ℕ} (h : Ends b i e) {x : ℕ} (t : x ≡ 
   pub entry-kept : {p : ℕ} → 2 ≤ x → Tail i e p → Makes b a c e o (gives (slice p e b) (recordsFrom b e)) r → Makes b a c i o (rEntry (recordsFrom b i)) r
   unfolding rEntry rEntryOf
   entry-kept {p} z f m = makes-as (makes-behind h m) (rw (h .is, ← t, le-ltb x 2 z, f .is b (h .high)) refl)
+
+-- inside a directory file
+pub directory-made : {b a c : List ℕ} {i e o : ℕ} {r : Made} → Ends b i e → Makes b a c e o ((rObjects next rFill 0x0107) (recordsFrom b e)) r → Makes b a c i o (rDirectory (recordsFrom b i)) r
+unfolding rDirectory rObjects
+directory-made h m = rw (h .is) (makes-behind h m)

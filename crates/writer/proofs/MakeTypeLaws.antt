@@ -1,37 +1,18 @@
 -- The types of objects that are made: the ways through their code.
 use Prim.Native.Nat.{ℕ}
-use mathlib.Core.Path.{_≡_, refl, sym, _∙_}
-use mathlib.Core.Bool.{Bool, true, false}
-use mathlib.Core.List.{List, [], _∷_}
-use native.Mathlib.Omega.{arith}
+use mathlib.Core.Path.{_≡_}
+use mathlib.Core.List.{List}
 use Rattle.writer.specs.declared.made.Made.{Made}
 use Rattle.writer.specs.declared.made.Made.the-variants.{Took, Long}
 use Rattle.rules.specs.declared.table.ObjectType.{ObjectType}
 use Rattle.rules.specs.declared.table.ObjectType.the-variants.{PrivateKey, Certificate, Password, Sealed}
-use Rattle.rules.specs.Reading.{Rec}
 use Rattle.rules.specs.Tables.{pathRows, privateRows, passwordRows, mark}
-use Rattle.rules.specs.Render.{Renderer, within, when, either, plain, rRows, rKeep, rPath, rPrivate, rCertificate, rPassword, rType}
-use Rattle.rules.specs.Book.{recordsFrom, nextIs}
+use Rattle.rules.specs.Render.{within, when, either, plain, rRows, rKeep, rPath, rPrivate, rCertificate, rPassword, rType}
+use Rattle.rules.specs.Book.{recordsFrom}
 use Rattle.writer.specs.Making.{Makes}
-use Rattle.writer.proofs.MadeLaws.{makes-as, then-long, then-took}
+use Rattle.writer.proofs.MadeLaws.{then-long, then-took}
 use Rattle.writer.proofs.ManyLaws.{three-first, three-second, three-third}
 use Rattle.rules.specs.Layouts as layouts
-
--- one way or the other by the next record
-module _ (k : ℕ) (q p : Renderer) (b : List ℕ) (i : ℕ) {t : Bool} (e : t ≡ nextIs k (recordsFrom b i)) where
-  either-is : (rs : List Rec) → nextIs k rs ≡ true → either (k ∷ []) q p rs ≡ q rs
-  either-is [] z = absurd (let y : _≡_ {A = ℕ} 0 1 = cc in omega arith)
-  either-is (x ∷ rs) z = rw z refl
-
-  either-not : (rs : List Rec) → nextIs k rs ≡ false → either (k ∷ []) q p rs ≡ p rs
-  either-not [] z = refl
-  either-not (x ∷ rs) z = rw z refl
-
-  pub either-yes : {a c : List ℕ} {o : ℕ} {r : Made} → t ≡ true → Makes b a c i o (q (recordsFrom b i)) r → Makes b a c i o (either (k ∷ []) q p (recordsFrom b i)) r
-  either-yes z m = makes-as m (sym (either-is (recordsFrom b i) (sym e ∙ z)))
-
-  pub either-no : {a c : List ℕ} {o : ℕ} {r : Made} → t ≡ false → Makes b a c i o (p (recordsFrom b i)) r → Makes b a c i o (either (k ∷ []) q p (recordsFrom b i)) r
-  either-no z m = makes-as m (sym (either-not (recordsFrom b i) (sym e ∙ z)))
 
 -- a private key
 module _ {b a c : List ℕ} {i o : ℕ} {r : Made} (m : Makes b a c i o (when (mark pathRows) (within 0x30 rPath) (recordsFrom b i)) r) where

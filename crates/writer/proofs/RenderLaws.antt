@@ -15,29 +15,21 @@ use Rattle.rules.specs.Reading.{Rec, rec}
 use Rattle.rules.specs.Files.{Name, two, namesPath, namesOf}
 use Rattle.rules.specs.Book.{records, recordsFrom, Ends}
 use Rattle.rules.specs.BookLaws.{name-room, name-path, one-end}
-use Rattle.rules.specs.Render.{Rendered, gives, rCia, rOd, rDirectory, rDirectories, framing, used, render}
-use Rattle.writer.specs.Making.{Walk, there, onto, Steps, Makes, makes, breaks, Opened, begins, Ended, Closed, Fitted, fits, beyond, Named, FileMade, FilesMade, TwoMade}
-use Rattle.writer.proofs.MadeLaws.{closed-up, moved-same, contents, closed-made, put-made, makes-same, made-put, made-left, made-room, made-steps, made-long, made-high}
+use Rattle.rules.specs.Render.{Rendered, gives, Renderer, either, rNamed, rCia, rOd, rDirectory, rLinear, rFile, rDirectories, framing, used, render}
+use Rattle.writer.specs.Making.{Walk, there, onto, Steps, Makes, breaks, Opened, begins, Ended, Closed, Fitted, fits, beyond, Named, FileMade, FilesMade, TwoMade}
+use Rattle.writer.proofs.MadeLaws.{front-grows, closed-front, by-either, closed-made, put-made, makes-same, made-put, made-left, made-room, made-steps, made-long, made-high}
 
 -- a dump record around contents
-framing-length : (k : ℕ) (x : List ℕ) → length (framing k x) ≡ 4 + length x
-unfolding framing recordBytes
-framing-length k x = omega arith
+abbrev lengthKind : ℕ → ℕ → List ℕ
+lengthKind k n = le16 (n + 2) ++ le16 k
 
 pub framing-grows : (k : ℕ) (x : List ℕ) → 4 + length x ≤ length (framing k x)
-framing-grows k x = omega (arith, framing-length k x)
+unfolding framing recordBytes
+framing-grows k = front-grows 4 (lengthKind k) (λ n. refl)
 
 pub fronted : (c : List ℕ) (o k : ℕ) {m : Made} {n q : ℕ} {c′ d : List ℕ} {p p′ : ℕ} → Ended (length c) m → m ≡ Took n q → o + 4 ≤ q → Put c c′ o p (le16 (q - (o + 4) + 2)) → Put c′ d p p′ (le16 k) → Closed c d o 4 (framing k) m (Took n q)
 unfolding framing recordBytes
-fronted c o k {m} {n} {q} {c′} {d} {p} {p′} l z h f g = record {
-  is = λ b a i r w t e.
-      let u = contents t e z h in
-      let s : q ≤ length a = omega (arith, l .is n q z, makes-same e) in
-      let x : q - (o + 4) ≡ length (w .bytes) = omega (arith, u .at) in
-      let v : q + 0 ≡ q = omega arith in
-      let y = closed-up 4 0 (le16 (q - (o + 4) + 2) ++ le16 k) u s (omega arith) (omega arith) (moved-same c (o + 4) q 0 refl h (omega (arith, l .is n q z))) (put-put f g) in
-      makes {w = gives (framing k (w .bytes)) (w .left)} (made-left e z) (rw (v, x) at y) (made-steps e z) s;
-}
+fronted c o k l z h f g = closed-front 4 (lengthKind k) (λ n. refl) c o l z h (put-put f g)
 
 pub framing-made : (k : ℕ) (w : Rendered) {b a c d : List ℕ} {i o r : ℕ} {m s : Made} → Opened (length a) o 4 r → Makes b a c i r w m → Closed c d o 4 (framing k) m s → Makes b a d i o (gives (framing k (w .bytes)) (w .left)) s
 framing-made k w h g e = closed-made h g e
@@ -46,19 +38,23 @@ framing-made k w h g e = closed-made h g e
 pub path-named : (b : List ℕ) (p e : ℕ) {a c d : List ℕ} {o n r : ℕ} → p ≤ e → e ≤ length b → Put a c o n ((e - p) % 256 ∷ []) → Put c d n r (slice p e b) → Named b a d p e o r
 path-named b p e h l f g = let z : length (slice p e b) ≡ e - p = length-slice p e b l in record { is = rw z (put-put f g) }
 
--- a directory file
-abbrev fileBytes : List ℕ → ℕ → ℕ → ℕ → List ℕ
-fileBytes b j e i = length (slice (j + 6) e b) % 256 ∷ (slice (j + 6) e b ++ rDirectory (recordsFrom b i) .bytes)
+-- a directory file of either kind
+named-length : (kind : ℕ) (path : List ℕ) (q : Renderer) (rs : List Rec) → 5 + length path ≤ length (rNamed kind path q rs .bytes)
+named-length kind path q rs = omega (arith, framing-grows kind (length path % 256 ∷ (path ++ q rs .bytes)), length-append path (q rs .bytes))
 
-file-length : (b : List ℕ) (j e i : ℕ) → length (framing 3 (fileBytes b j e i)) ≡ 5 + length (slice (j + 6) e b) + length (rDirectory (recordsFrom b i) .bytes)
-file-length b j e i = omega (arith, framing-length 3 (fileBytes b j e i), length-append (slice (j + 6) e b) (rDirectory (recordsFrom b i) .bytes))
+file-length : (path : List ℕ) (rs : List Rec) → 5 + length path ≤ length (rFile path rs .bytes)
+unfolding rFile
+file-length path rs = by-either (λ w. 5 + length path ≤ length (w .bytes)) (0x0118 ∷ []) (rNamed 3 path rDirectory) (rNamed 4 path rLinear) rs (named-length 3 path rDirectory rs) (named-length 4 path rLinear rs)
 
-module _ (b : List ℕ) (j e i o : ℕ) {a c : List ℕ} {p : ℕ} (f : Named b a c (j + 6) e (o + 4) p) where
-  pub file-short : length c < p → FileMade b a c j e i o Long
-  file-short h = record { is = breaks {w = gives (framing 3 (fileBytes b j e i)) (rDirectory (recordsFrom b i) .left)} (omega (arith, f .is .at, put-length (f .is), file-length b j e i)) (put-length (f .is)) }
+pub file-short : (b : List ℕ) (j e i o : ℕ) {a c : List ℕ} {p : ℕ} → Named b a c (j + 6) e (o + 4) p → length c < p → FileMade b a c j e i o Long
+file-short b j e i o f h = record { is = breaks {w = rFile (slice (j + 6) e b) (recordsFrom b i)} (omega (arith, f .is .at, put-length (f .is), file-length (slice (j + 6) e b) (recordsFrom b i))) (put-length (f .is)) }
 
-  pub file-made : {d g : List ℕ} {m s : Made} → Makes b c d i p (rDirectory (recordsFrom b i)) m → Closed d g o 4 (framing 3) m s → FileMade b a g j e i o s
-  file-made m k = record { is = closed-made begins (put-made (f .is) m) k }
+pub named-made : (kind : ℕ) (q : Renderer) (b : List ℕ) (j e i o : ℕ) {a c d g : List ℕ} {p : ℕ} {m s : Made} → Named b a c (j + 6) e (o + 4) p → Makes b c d i p (q (recordsFrom b i)) m → Closed d g o 4 (framing kind) m s → Makes b a g i o (rNamed kind (slice (j + 6) e b) q (recordsFrom b i)) s
+named-made kind q b j e i o f m k = closed-made begins (put-made (f .is) m) k
+
+pub file-made : (b : List ℕ) (j e i o : ℕ) {a c : List ℕ} {r : Made} → Makes b a c i o (either (0x0118 ∷ []) (rNamed 3 (slice (j + 6) e b) rDirectory) (rNamed 4 (slice (j + 6) e b) rLinear) (recordsFrom b i)) r → FileMade b a c j e i o r
+unfolding rFile
+file-made b j e i o m = record { is = m }
 
 walk-low : {b : List ℕ} {i n : ℕ} {rs : List Rec} → Walk b i n rs → i ≤ n
 walk-low there = omega arith
@@ -140,7 +136,10 @@ module _ {b a c : List ℕ} {j end i o k n p : ℕ} (m : Filing b a c j end i o 
     filing-long-enough z = name-room (two b (k + 2)) b k e (h .high) (sym q ∙ z)
 
     module _ (z : t ≡ true) {d : List ℕ} {r : Made} (f : FileMade b c d k e n p r) where
-      named : (rs : List Rec) → Walk b j end rs → rDirectories (namesOf rs) (recordsFrom b i) ≡ m .made ++ (framing 3 (fileBytes b k e n) ++ rDirectories (namesOf (first .rest)) (rDirectory (recordsFrom b n) .left))
+      abbrev file : Rendered
+      file = rFile (slice (k + 6) e b) (recordsFrom b n)
+
+      named : (rs : List Rec) → Walk b j end rs → rDirectories (namesOf rs) (recordsFrom b i) ≡ m .made ++ (file .bytes ++ rDirectories (namesOf (first .rest)) (file .left))
       unfolding rDirectories namesOf
       named rs v =
           let w = first in
@@ -148,21 +147,23 @@ module _ {b a c : List ℕ} {j end i o k n p : ℕ} (m : Filing b a c j end i o 
           m .whole rs v ∙ ap (λ (x : List Name). m .made ++ rDirectories x (recordsFrom b n)) (ap namesOf (w .is) ∙ u)
 
       pub filing-long : r ≡ Long → FilesMade b a d j end i o Long
-      filing-long y = record { is = λ rs v. rw (named rs v) (beyond (omega (arith, made-long (f .is) y, m .put .at, m .same, length-append (m .made) (framing 3 (fileBytes b k e n) ++ rDirectories (namesOf (first .rest)) (rDirectory (recordsFrom b n) .left)), length-append (framing 3 (fileBytes b k e n)) (rDirectories (namesOf (first .rest)) (rDirectory (recordsFrom b n) .left)))) (makes-same (f .is) ∙ m .same)) }
+      filing-long y =
+          let more = rDirectories (namesOf (first .rest)) (file .left) in
+          record { is = λ rs v. rw (named rs v) (beyond (omega (arith, made-long (f .is) y, m .put .at, m .same, length-append (m .made) (file .bytes ++ more), length-append (file .bytes) more)) (makes-same (f .is) ∙ m .same)) }
 
       pub filing-more : {n′ p′ : ℕ} → r ≡ Took n′ p′ → Filing b a d j end i o e n′ p′
       filing-more {n′} {p′} y =
           let w = first in
-          let x : rDirectory (recordsFrom b n) .left ≡ recordsFrom b n′ = made-left (f .is) y in
+          let x : file .left ≡ recordsFrom b n′ = made-left (f .is) y in
           record {
             rest = w .rest;
             walk = w .walk;
-            made = m .made ++ framing 3 (fileBytes b k e n);
+            made = m .made ++ file .bytes;
             put = put-put (m .put) (made-put (f .is) y);
             room = omega (arith, made-room (f .is) y, makes-same (f .is), m .same);
             same = makes-same (f .is) ∙ m .same;
             high = made-high (f .is) y;
-            whole = λ rs v. named rs v ∙ rw x (sym (append-assoc (m .made) (framing 3 (fileBytes b k e n)) (rDirectories (namesOf (w .rest)) (recordsFrom b n′))));
+            whole = λ rs v. named rs v ∙ rw x (sym (append-assoc (m .made) (file .bytes) (rDirectories (namesOf (w .rest)) (recordsFrom b n′))));
           }
 
 used-is : (cs ds : List Rec) → used (cs ++ ds) ds ≡ cs

@@ -4,13 +4,13 @@ use mathlib.Core.Path.{_≡_}
 use mathlib.Core.List.{List, [], _∷_, _++_}
 use lib.ListN.{length, take, drop}
 use lib.Seq.{slice}
-use Rattle.elements.specs.Put.{Put}
+use Rattle.elements.specs.Put.{Put, le16}
 use Rattle.writer.specs.declared.made.Made.{Made}
 use Rattle.writer.specs.declared.made.Made.the-variants.{Took, Long}
 use Rattle.rules.specs.Reading.{Rec, rec}
 use Rattle.rules.specs.Files.{two, namesOf}
 use Rattle.rules.specs.Book.{recordsFrom, Ends}
-use Rattle.rules.specs.Render.{Rendered, gives, rOd, rDirectory, rDirectories, framing, used}
+use Rattle.rules.specs.Render.{Rendered, gives, rOd, rFile, rDirectories, framing, used}
 
 -- from i to n record by record
 pub data Walk (b : List ℕ) : ℕ → ℕ → List Rec → Type 0 where
@@ -55,6 +55,10 @@ pub record Ended (len : ℕ) (m : Made) : Type 0 where
 pub record Closed (c d : List ℕ) (o k : ℕ) (f : List ℕ → List ℕ) (m s : Made) : Type 0 where
   pub is : (b a : List ℕ) (i r : ℕ) (w : Rendered) → Opened (length a) o k r → Makes b a c i r w m → Makes b a d i o (gives (f (w .bytes)) (w .left)) s
 
+-- the contents of a record of a record file, behind their length in two bytes
+abbrev pub behindLength : List ℕ → List ℕ
+behindLength x = le16 (length x) ++ x
+
 -- an entry's own bytes start at r
 pub record Tail (i e r : ℕ) : Type 0 where
   pub is : (b : List ℕ) → e ≤ length b → drop 2 (slice (i + 4) e b) ≡ slice r e b
@@ -64,9 +68,9 @@ pub data Fitted (a c : List ℕ) (o : ℕ) (x : List ℕ) : Made → Type 0 wher
   fits : {n q : ℕ} → Put a c o q x → q ≤ length a → Fitted a c o x (Took n q)
   beyond : length a < o + length x → length c ≡ length a → Fitted a c o x Long
 
--- a directory file for the record at j, which ends at e and names a path; its objects' records are those from i on
+-- a directory file for the record at j, which ends at e and names a path, from the records that start at i
 pub record FileMade (b a c : List ℕ) (j e i o : ℕ) (r : Made) : Type 0 where
-  pub is : Makes b a c i o (gives (framing 3 (length (slice (j + 6) e b) % 256 ∷ (slice (j + 6) e b ++ rDirectory (recordsFrom b i) .bytes))) (rDirectory (recordsFrom b i) .left)) r
+  pub is : Makes b a c i o (rFile (slice (j + 6) e b) (recordsFrom b i)) r
 
 -- the directory files for the records from j to `end`
 pub record FilesMade (b a c : List ℕ) (j end i o : ℕ) (r : Made) : Type 0 where

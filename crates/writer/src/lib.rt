@@ -4,6 +4,7 @@ mod made;
 mod make_common;
 mod make_condition;
 mod make_entry;
+mod make_linear;
 mod make_object;
 mod make_type;
 mod render;

@@ -13,7 +13,7 @@ use rules::record_end;
 ghost use mathlib.Core.List.{[], _∷_};
 ghost use Prim.Native.Nat.{_+_, _≤_};
 ghost use lib.ListN.{length};
-ghost use Rattle.rules.specs.Render.{from, rAll, rObjects, rInside, rEntry, rCia, rOd, rDirectory};
+ghost use Rattle.rules.specs.Render.{rAll, rInside, rEntry, rCia, rOd, rDirectory};
 ghost use Rattle.rules.specs.Book.{recordsFrom, Ends};
 ghost use Rattle.writer.specs.Making.{Making, Makes, Onward, Tail};
 
@@ -98,23 +98,12 @@ pub fn make_cia(b: &[u8], i: usize, out: &mut [u8], o: usize) -> Made
     }
 }
 
-// The objects behind a directory file's 0118.
-fn make_behind(b: &[u8], i: usize, out: &mut [u8], o: usize) -> Made
-    requires { ⌜ Making (now b) i (now out) o ⌝ }
-    ensures { λ r. ⌜ Makes (now (b .entry)) (now (out .entry)) (now (out .exit)) i o (from (λ k p rs. rObjects rs) (recordsFrom (now (b .entry)) i)) r ⌝ }
-{
-    if b.len() < i + 4 {
-        return Made::Took(i, o);
-    }
-    make_objects(b, record_end(b, i), out, o)
-}
-
-// A directory file.
+// Inside a directory file or a record of one, whose 0118 or 011A is at i: objects, then fill.
 pub fn make_directory(b: &[u8], i: usize, out: &mut [u8], o: usize) -> Made
-    requires { ⌜ Making (now b) i (now out) o ⌝ }
-    ensures { λ r. ⌜ Makes (now (b .entry)) (now (out .entry)) (now (out .exit)) i o (rDirectory (recordsFrom (now (b .entry)) i)) r ⌝ }
+    requires { ⌜ (i + 4 ≤ length (now b)) × Making (now b) i (now out) o ⌝ }
+    ensures { λ r. ⌜ Makes (now (b .entry)) (now (out .entry)) (now (out .exit)) i o (rDirectory (recordsFrom (now (b .entry)) i)) r × Onward (now (b .entry)) i r ⌝ }
 {
-    match make_behind(b, i, out, o) {
+    match make_objects(b, record_end(b, i), out, o) {
         Made::Long => Made::Long,
         Made::Took(n, q) => make_fill(b, n, 0x0107, out, q),
     }

@@ -3,10 +3,12 @@ use crate::made::opened;
 use crate::make_entry::make_cia;
 use crate::make_entry::make_directory;
 use crate::make_entry::make_od;
+use crate::make_linear::make_linear;
 use elements::put_byte;
 use elements::put_le16;
 use elements::put_part;
 use rules::is_name;
+use rules::is_next;
 use rules::record_end;
 ghost use Prim.Native.Nat.{_+_, _≤_};
 ghost use lib.ListN.{length};
@@ -41,7 +43,7 @@ fn put_path(out: &mut [u8], o: usize, b: &[u8], p: usize, e: usize) -> usize
     put_part(out, n, b, p, e)
 }
 
-// A directory file for the record at j, which ends at e and names a path; its objects' records are those from i on.
+// A directory file for the record at j, which ends at e and names a path: transparent where 0118 is at i, else of records.
 fn make_file(b: &[u8], j: usize, e: usize, i: usize, out: &mut [u8], o: usize) -> Made
     requires { ⌜ (j + 6 ≤ e) × (e ≤ length (now b)) × Making (now b) i (now out) o ⌝ }
     ensures { λ r. ⌜ FileMade (now (b .entry)) (now (out .entry)) (now (out .exit)) j e i o r ⌝ }
@@ -50,8 +52,12 @@ fn make_file(b: &[u8], j: usize, e: usize, i: usize, out: &mut [u8], o: usize) -
     if out.len() < p {
         return Made::Long;
     }
-    let made = make_directory(b, i, out, p);
-    fronted(out, o, 3, made)
+    if is_next(b, i, 0x0118) {
+        let made = make_directory(b, i, out, p);
+        return fronted(out, o, 3, made);
+    }
+    let made = make_linear(b, i, out, p);
+    fronted(out, o, 4, made)
 }
 
 // The directory files for the records of EF.OD from j to end, from the records that start at i.

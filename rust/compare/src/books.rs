@@ -53,8 +53,10 @@ fn object_and_kind(book: &[u8], rng: &mut Rng) -> (u32, u32) {
         }
     }
     let any_object = rng.below(objects as usize + 2) as u32;
-    let odd_kinds =
-        [0x0120, 0x0121, 0x0123, 0x0127, 0x0130, 0x0150, 0x0160, 0x01A0, 0x01FF, 0x0200, 0x0101, 0, 0x1_0123];
+    let odd_kinds = [
+        0x0119, 0x011A, 0x0120, 0x0121, 0x0123, 0x0127, 0x0130, 0x0150, 0x0160, 0x01A0, 0x01FF, 0x0200, 0x0101, 0,
+        0x1_0123,
+    ];
     if fields.is_empty() || rng.chance(10) {
         return (any_object, rng.pick(&odd_kinds));
     }

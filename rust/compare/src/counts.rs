@@ -3,7 +3,7 @@
 /// Accepted, then each refusal number, for each service.
 #[derive(Default)]
 pub struct Counts {
-    services: [[u64; 17]; 4],
+    services: [[u64; 18]; 4],
 }
 
 #[derive(Clone, Copy)]

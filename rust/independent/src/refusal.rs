@@ -1,11 +1,12 @@
-//! The refusals of document 01, by number.
+//! The refusals of documents 01 and 02, by number.
 
 /// A refusal's number and its place.
 pub type Refusal = (u32, usize);
 
 /// dump over 32,768 bytes
 pub const SIZE: u32 = 1;
-/// a dump record is broken, missing, of the wrong kind, or a file or path length is not allowed
+/// a dump record is broken, missing, of the wrong kind, or a file or path length is not allowed, or a record length
+/// runs over
 pub const FRAME: u32 = 2;
 /// bad or cut-off tag form, or not the component due here, or one more than is due
 pub const TAG: u32 = 3;
@@ -35,3 +36,5 @@ pub const ROOM: u32 = 14;
 pub const BOOK: u32 = 15;
 /// object or field not there
 pub const NONE: u32 = 16;
+/// a record holds a second object
+pub const SECOND: u32 = 17;

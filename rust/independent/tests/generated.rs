@@ -1,5 +1,7 @@
-//! The generator: whole cards are accepted and written back, and each refusal of the reader is seen.
+//! The generator: whole cards are accepted and written back, each refusal of the reader is seen, and record files of
+//! every sort.
 
+use independent::book::{records, Record};
 use independent::generate::{card, damaged_book, dump, Rng};
 use independent::{read, write};
 
@@ -14,7 +16,7 @@ fn whole_cards_are_accepted() {
 
 #[test]
 fn each_refusal_is_seen() {
-    let mut seen = [0; 17];
+    let mut seen = [0; 18];
     for index in 0..4000 {
         let mut rng = Rng::of_input(2, index);
         match read(&dump(&mut rng)) {
@@ -29,7 +31,50 @@ fn each_refusal_is_seen() {
         }
     }
     println!("{seen:?}");
-    for number in (0..=13).chain([15]) {
+    for number in (0..=13).chain([15, 17]) {
         assert!(seen[number] >= 3, "{number} was seen {} times: {seen:?}", seen[number]);
     }
+}
+
+/// The records of each record file of a book, each as the kinds of its book records.
+fn linear_files(book: &[u8]) -> Vec<Vec<Vec<Record<'_>>>> {
+    let mut files: Vec<Vec<Vec<Record>>> = Vec::new();
+    let mut inside = false;
+    for record in records(book).unwrap() {
+        match record.kind {
+            0x0118 => inside = false,
+            0x0119 => {
+                inside = true;
+                files.push(vec![]);
+            }
+            0x011A => files.last_mut().unwrap().push(vec![]),
+            _ if inside => files.last_mut().unwrap().last_mut().unwrap().push(record),
+            _ => {}
+        }
+    }
+    files
+}
+
+#[test]
+fn record_files_of_every_sort_are_seen() {
+    let (mut cards, mut mixed, mut empty, mut long) = (0, 0, 0, 0);
+    // without and with an object: no fill, 00, FF
+    let mut sorts = [[0; 3]; 2];
+    for index in 0..1000 {
+        let book = read(&card::valid(&mut Rng::of_input(3, index)).encode()).unwrap();
+        let files = linear_files(&book);
+        cards += usize::from(!files.is_empty());
+        mixed += usize::from(!files.is_empty() && records(&book).unwrap().iter().any(|record| record.kind == 0x0118));
+        empty += files.iter().filter(|file| file.is_empty()).count();
+        long += files.iter().filter(|file| file.len() > 20).count();
+        for record in files.concat() {
+            let object = usize::from(record.iter().any(|part| part.kind == 0x0120));
+            let fill = record.iter().find(|part| part.kind == 0x0107).map(|fill| fill.payload[0]);
+            sorts[object][fill.map_or(0, |byte| if byte == 0 { 1 } else { 2 })] += 1;
+        }
+    }
+    println!("{cards} cards, {mixed} mixed, {empty} empty and {long} long files, records {sorts:?}");
+    assert!((250..=400).contains(&cards), "{cards} of 1000 cards have a record file");
+    assert!(mixed >= 20 && empty >= 3 && long >= 3, "{mixed} {empty} {long}");
+    assert!(sorts.concat().iter().all(|count| *count >= 20), "{sorts:?}");
 }

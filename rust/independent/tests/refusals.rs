@@ -3,17 +3,7 @@
 mod common;
 
 use common::*;
-use independent::{field, links, read, write};
-
-fn refused(dump: &[u8], number: u32, place: usize) {
-    assert_eq!(read(dump), Err((number, place)));
-}
-
-fn accepted(dump: &[u8]) -> Vec<u8> {
-    let book = read(dump).unwrap();
-    assert_eq!(write(&book).as_deref(), Ok(dump));
-    book
-}
+use independent::{field, links, write};
 
 #[test]
 fn size() {

@@ -1,9 +1,10 @@
 //! Damage to bytes and to records, without any repair of what encloses them or with that of the record's length only.
 
-use super::node::{join, Record};
+use super::node::{join, split, Record};
 use super::rng::Rng;
 use crate::book::records;
 use crate::read::element::element;
+use crate::read::linear;
 
 /// Flips, cuts, adds or takes bytes somewhere.
 pub fn damage(rng: &mut Rng, bytes: &mut Vec<u8>) {
@@ -29,8 +30,13 @@ pub fn change_length(rng: &mut Rng, dump: &mut [u8]) {
     let mut places = Vec::new();
     let all = records(dump).unwrap_or_default();
     for record in all {
-        let path = if record.kind == 3 { 1 + record.payload[0] as usize } else { 0 };
-        lengths(dump, record.at + 4 + path, record.at + 4 + record.payload.len(), &mut places);
+        let path = if matches!(record.kind, 3 | 4) { 1 + record.payload[0] as usize } else { 0 };
+        let file = (record.at + 4 + path, record.at + 4 + record.payload.len());
+        let parts =
+            if record.kind == 4 { linear::records(dump, file.0, file.1).unwrap_or_default() } else { vec![file] };
+        for (from, end) in parts {
+            lengths(dump, from, end, &mut places);
+        }
     }
     if places.is_empty() {
         return;
@@ -62,11 +68,7 @@ fn lengths(dump: &[u8], from: usize, end: usize, places: &mut Vec<usize>) {
 
 /// Drops, doubles, swaps or changes a whole record; the lengths of records are right afterwards, except in one case.
 pub fn damage_records(rng: &mut Rng, bytes: &[u8]) -> Vec<u8> {
-    let mut all: Vec<Record> = records(bytes)
-        .unwrap_or_default()
-        .iter()
-        .map(|record| Record { kind: record.kind, payload: record.payload.to_vec() })
-        .collect();
+    let mut all = split(bytes);
     if all.is_empty() {
         return rng.bytes(3);
     }
@@ -110,8 +112,8 @@ fn choose(rng: &mut Rng, all: &[Record]) -> usize {
 fn other_payload(rng: &mut Rng, kind: u16, payload: &mut Vec<u8>) {
     let edges = [0, 1, 3, 4, 5, 8, 9, 64, 65, 0x80, 0xC0, 255, 256, 32_767, 32_768, 65_535, 65_536, 1 << 31, u32::MAX];
     match payload.len() {
-        0..=2 if kind == 3 => damage(rng, payload),
-        _ if kind == 3 => payload[0] = rng.pick(&[0, 1, 2, 3, 64, 65, 255]),
+        0..=2 if matches!(kind, 3 | 4) => damage(rng, payload),
+        _ if matches!(kind, 3 | 4) => payload[0] = rng.pick(&[0, 1, 2, 3, 64, 65, 255]),
         4 if rng.chance(80) => *payload = rng.pick(&edges).to_le_bytes().to_vec(),
         1 => payload[0] = rng.pick(&[0, 1, 2, 0xFF]),
         _ => damage(rng, payload),
@@ -122,7 +124,9 @@ fn other_kind(rng: &mut Rng, old: u16) -> u16 {
     match rng.below(3) {
         0 => old ^ 1 << rng.below(16),
         1 => old.wrapping_add(1),
-        _ => rng.pick(&[0x0107, 0x0108, 0x0110, 0x0118, 0x0120, 0x0126, 0x012F, 0x0160, 0x01A0, 1, 2, 3]),
+        _ => rng.pick(&[
+            0x0107, 0x0108, 0x0110, 0x0118, 0x0119, 0x011A, 0x0120, 0x0126, 0x012F, 0x0160, 0x01A0, 1, 2, 3, 4, 5,
+        ]),
     }
 }
 

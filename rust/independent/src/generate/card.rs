@@ -8,12 +8,24 @@ use super::rng::Rng;
 
 const LARGEST_DUMP: usize = 32_768;
 const LARGEST_FILE: usize = 16_383;
+/// How many of a hundred cards may have record files, so that about a third of all have one.
+const LINEAR: usize = 52;
 
-/// A card that document 01 accepts.
+/// A card that is accepted.
 pub fn valid(rng: &mut Rng) -> Card {
     loop {
-        let card = if rng.below(300) == 0 { fat(rng) } else { made(rng, vec![]) };
+        let card = if rng.below(200) == 0 { fat(rng) } else { made(rng, vec![]) };
         if fits(&card) {
+            return card;
+        }
+    }
+}
+
+/// A card that is accepted and has a record file.
+pub fn valid_with_records(rng: &mut Rng) -> Card {
+    loop {
+        let card = valid(rng);
+        if card.has_linear() {
             return card;
         }
     }
@@ -29,9 +41,9 @@ pub fn flawed(rng: &mut Rng) -> Card {
 }
 
 fn fits(card: &Card) -> bool {
-    let too_long = |file: &File| file.encode().len() > LARGEST_FILE;
-    let files_fit = !card.files.iter().any(|(_, file)| too_long(file));
-    files_fit && !too_long(&card.info) && !too_long(&card.directory) && card.encode().len() <= LARGEST_DUMP
+    let short = |bytes: Vec<u8>| bytes.len() <= LARGEST_FILE;
+    let files_fit = card.files.iter().all(|(_, file)| short(file.encode()));
+    files_fit && short(card.info.encode()) && short(card.directory.encode()) && card.encode().len() <= LARGEST_DUMP
 }
 
 fn made(rng: &mut Rng, flaws: Vec<Flaw>) -> Card {
@@ -41,7 +53,8 @@ fn made(rng: &mut Rng, flaws: Vec<Flaw>) -> Card {
     let left = if flaws.contains(&Flaw::Many) { 130 } else { 128 };
     let about_cards = flaws.iter().any(|flaw| matches!(flaw, Flaw::Many | Flaw::Size | Flaw::Twice | Flaw::Path));
     let small = !about_cards && rng.chance(if flaws.is_empty() { 30 } else { 70 });
-    let mut maker = Maker { rng, flaws, pool, own, taken: vec![], left, small };
+    let linear = flaws.contains(&Flaw::Second) || rng.chance(LINEAR);
+    let mut maker = Maker { rng, flaws, pool, own, taken: vec![], left, small, linear };
     if small {
         maker.small_card()
     } else {
@@ -107,7 +120,7 @@ impl Maker<'_> {
         File { nodes: vec![group(0x30, parts)], fill: self.fill() }
     }
 
-    fn fill(&mut self) -> (u8, usize) {
+    pub fn fill(&mut self) -> (u8, usize) {
         if self.rng.chance(80) {
             return (0, 0);
         }
@@ -123,7 +136,8 @@ impl Maker<'_> {
             return;
         }
         let objects = self.objects(tag, crowd);
-        if self.rng.chance(40) {
+        let inline = if self.flaws.contains(&Flaw::Second) { 10 } else { 40 };
+        if self.rng.chance(inline) {
             card.directory.nodes.push(group(tag, vec![group(0xA0, objects)]));
             return;
         }
@@ -134,8 +148,8 @@ impl Maker<'_> {
             named.resize(count, 0x44);
         }
         card.directory.nodes.push(group(tag, vec![group(0x30, vec![leaf(0x04, named)])]));
-        let fill = self.fill();
-        card.files.push((path, File { nodes: objects, fill }));
+        let file = self.directory_file(objects);
+        card.files.push((path, file));
     }
 
     /// All nine, those that links are about more often, and on small cards the one with the most components.
@@ -205,11 +219,11 @@ impl Maker<'_> {
         let all = self.rng.chance(50);
         let chosen = self.rng.below(card.files.len() + 2);
         let mut left = LARGEST_DUMP.saturating_sub(card.encode().len()) + over;
-        for (index, file) in card.all_files().into_iter().enumerate() {
+        for (index, (length, part)) in card.lengths().into_iter().enumerate() {
             let bound = if all { LARGEST_FILE } else { LARGEST_FILE + over };
-            let room = bound.saturating_sub(file.encode().len()).min(left);
-            if all || index == chosen {
-                file.fill.1 += room;
+            let room = bound.saturating_sub(length).min(left);
+            if let Some(part) = part.filter(|_| all || index == chosen) {
+                part.fill.1 += room;
                 left -= room;
             }
         }

@@ -1,7 +1,8 @@
 //! A card whose book is as long as a book can be, some of them over 65,536 bytes: the most objects with the most numbers,
-//! and for the rest of the dump lists of conditions, which take two bytes each and have records of four.
+//! and for the rest of the dump lists of conditions, which take two bytes each and have records of four; or as many
+//! records as fit into the files, of one byte, which take three and have eleven in the book, or of none.
 
-use super::node::{group, leaf, Card, File, Node};
+use super::node::{group, leaf, Card, DirectoryFile, File, Node};
 use super::rng::Rng;
 
 /// All files together with their records have 32,768 bytes at most.
@@ -10,16 +11,24 @@ const FILE: usize = 16_363;
 pub fn fat(rng: &mut Rng) -> Card {
     let bound = FILE - rng.pick(&[0, 1, 200, 300]);
     let paths = [vec![1], vec![2]];
+    let files = if rng.chance(60) { [file(bound), file(bound)] } else { [records(rng, bound), records(rng, bound)] };
     let entry = |path: &Vec<u8>| group(0xA8, vec![group(0x30, vec![leaf(0x04, path.clone())])]);
     Card {
         info: File { nodes: vec![group(0x30, vec![leaf(0x02, vec![1]), leaf(0x03, vec![0])])], fill: (0, 0) },
         directory: File { nodes: paths.iter().map(entry).collect(), fill: (0, 0) },
-        files: paths.iter().map(|path| (path.clone(), file(bound))).collect(),
+        files: paths.into_iter().zip(files).collect(),
     }
 }
 
+/// Records of one byte of fill, or of nothing, up to the bound.
+fn records(rng: &mut Rng, bound: usize) -> DirectoryFile {
+    let count = rng.pick(&[0, 1, 1]);
+    let record = File { nodes: vec![], fill: (rng.pick(&[0x00, 0xFF]), count) };
+    DirectoryFile::Linear(vec![record; bound / (2 + count)])
+}
+
 /// Sixty-four passwords, the last of which has as many conditions as the bound allows.
-fn file(bound: usize) -> File {
+fn file(bound: usize) -> DirectoryFile {
     let mut rules = Vec::new();
     let mut nodes = vec![password(vec![]); 64];
     // a rule of 255 conditions has 4 + 3 + 4 + 510 bytes, and the headers around grow by less than 20
@@ -29,7 +38,7 @@ fn file(bound: usize) -> File {
     }
     rules.push(rule((left % 521).saturating_sub(12).max(4) / 2));
     nodes[63] = password(vec![group(0x30, rules)]);
-    File { nodes, fill: (0, 0) }
+    DirectoryFile::Transparent(File { nodes, fill: (0, 0) })
 }
 
 fn rule(count: usize) -> Node {

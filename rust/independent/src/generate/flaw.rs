@@ -32,9 +32,11 @@ pub enum Flaw {
     Many,
     /// A file or dump that is too long.
     Size,
+    /// A second object in a record, or what begins like one.
+    Second,
 }
 
-pub const FLAWS: [Flaw; 17] = [
+pub const FLAWS: [Flaw; 18] = [
     Flaw::Integer,
     Flaw::Flags,
     Flaw::Text,
@@ -52,6 +54,7 @@ pub const FLAWS: [Flaw; 17] = [
     Flaw::Path,
     Flaw::Many,
     Flaw::Size,
+    Flaw::Second,
 ];
 
 impl Maker<'_> {
@@ -59,6 +62,7 @@ impl Maker<'_> {
     pub fn flaw(&mut self, flaw: Flaw) -> bool {
         let percent = match flaw {
             Flaw::Integer | Flaw::Flags | Flaw::Tag | Flaw::Identifier => 12,
+            Flaw::Second => 80,
             _ => 40,
         };
         self.flaws.contains(&flaw) && self.rng.chance(percent)

@@ -19,6 +19,8 @@ pub struct Maker<'a> {
     pub left: usize,
     /// Whether the card is a small one, of few objects with most of their options.
     pub small: bool,
+    /// Whether the card may have record files.
+    pub linear: bool,
 }
 
 impl Maker<'_> {

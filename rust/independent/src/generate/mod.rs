@@ -4,9 +4,13 @@ pub mod bytes;
 pub mod card;
 mod fat;
 mod flaw;
+mod full;
+mod linear;
+mod linear_damage;
 mod maker;
 pub mod node;
 mod object;
+mod openings;
 pub mod rng;
 mod sealed;
 mod text;
@@ -21,12 +25,14 @@ pub fn dump(rng: &mut Rng) -> Vec<u8> {
     if rng.chance(33) {
         return card::valid(rng).encode();
     }
-    match rng.below(40) {
+    match rng.below(47) {
         0..=11 => damaged_tree(rng),
         12..=26 => card::flawed(rng).encode(),
         27..=32 => damaged_bytes(rng),
         33..=38 => damaged_frames(rng),
-        _ => damaged_fill(rng),
+        39 => damaged_fill(rng),
+        40..=45 => damaged_records(rng),
+        _ => full::full(rng).encode(),
     }
 }
 
@@ -41,11 +47,12 @@ fn damaged_tree(rng: &mut Rng) -> Vec<u8> {
 }
 
 fn damage_tree(rng: &mut Rng, card: &mut Card) {
-    if card.all_files().iter().all(|file| file.nodes.is_empty()) {
+    if card.all_parts().iter().all(|file| file.nodes.is_empty()) {
         return;
     }
+    let pool = vec![vec![1], vec![]];
     let mut maker =
-        Maker { rng, flaws: vec![], pool: vec![vec![1], vec![]], own: vec![], taken: vec![], left: 0, small: false };
+        Maker { rng, flaws: vec![], pool, own: vec![], taken: vec![], left: 0, small: false, linear: false };
     tree::damage(&mut maker, card);
 }
 
@@ -69,10 +76,23 @@ fn damaged_frames(rng: &mut Rng) -> Vec<u8> {
     bytes::damage_records(rng, &dump)
 }
 
-/// A card with fill in which one byte differs; the last element of that file may be lacking, too.
+/// A card with records of its record files damaged, or their lengths; sometimes CIAInfo too, which is read after them.
+fn damaged_records(rng: &mut Rng) -> Vec<u8> {
+    let mut records = card::valid_with_records(rng).records();
+    let times = if rng.chance(85) { 1 } else { 2 };
+    for _ in 0..times {
+        linear_damage::damage(rng, &mut records);
+    }
+    if rng.chance(10) {
+        bytes::damage(rng, &mut records[0].payload);
+    }
+    node::join(&records)
+}
+
+/// A card with fill in which one byte differs; the last element of that file or record may be lacking, too.
 fn damaged_fill(rng: &mut Rng) -> Vec<u8> {
     let mut card = card::valid(rng);
-    let mut files = card.all_files();
+    let mut files = card.all_parts();
     let at = rng.below(files.len());
     let file = &mut files[at];
     if rng.chance(20) {
@@ -81,14 +101,18 @@ fn damaged_fill(rng: &mut Rng) -> Vec<u8> {
     let mut fill = vec![rng.pick(&[0x00, 0xFF]); rng.between(1, 12)];
     let at = rng.below(fill.len());
     fill[at] = rng.pick(&[0x00, 0x01, 0x30, 0xFE, 0xFF]);
-    // fill is no element, but what has no tag and no length of its own is written as it stands
-    file.nodes.push(node::Node { tag: vec![], length: Some(vec![]), body: node::Body::Bytes(fill) });
+    file.nodes.push(node::raw(fill));
     file.fill = (0, 0);
     card.encode()
 }
 
 /// A damaged copy of a book.
 pub fn damaged_book(rng: &mut Rng, book: &[u8]) -> Vec<u8> {
+    let mut all = node::split(book);
+    if rng.chance(openings::percent(&all)) {
+        openings::damage(rng, &mut all);
+        return node::join(&all);
+    }
     if rng.chance(70) {
         return bytes::damage_records(rng, book);
     }

@@ -6,7 +6,7 @@ use crate::write::element::{flag_contents, integer_contents};
 
 /// Damages one element of the card.
 pub fn damage(maker: &mut Maker, card: &mut Card) {
-    let mut files: Vec<&mut File> = card.all_files().into_iter().filter(|file| !file.nodes.is_empty()).collect();
+    let mut files: Vec<&mut File> = card.all_parts().into_iter().filter(|file| !file.nodes.is_empty()).collect();
     let count = files.len();
     let file = files.swap_remove(maker.rng.below(count));
     let (list, at) = choose(maker, &mut file.nodes);

@@ -75,8 +75,17 @@ impl<'a> Reader<'a> {
         Ok(())
     }
 
-    /// A directory file: "0118, its objects, its fill"
+    /// A directory file; its dump kind says which of the two it is.
     pub fn file(&mut self, entry_tag: u8, file: File) -> Result<(), Refusal> {
+        if file.kind == 4 {
+            self.linear_file(entry_tag, file)
+        } else {
+            self.transparent_file(entry_tag, file)
+        }
+    }
+
+    /// "0118, its objects, its fill"
+    fn transparent_file(&mut self, entry_tag: u8, file: File) -> Result<(), Refusal> {
         self.record(0x0118, &[]);
         let mut inside = Inside::new(self.dump, file.from, file.end);
         while inside.more() && !fill::begins(&inside) {

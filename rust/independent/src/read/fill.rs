@@ -4,13 +4,13 @@ use super::inside::Inside;
 use super::Reader;
 use crate::refusal::{Refusal, FILL};
 
-/// Whether fill begins where the next element of a file would start.
+/// Whether fill begins where the next element of a file or a record would start.
 pub fn begins(inside: &Inside) -> bool {
     matches!(inside.first_byte(), Some(0x00 | 0xFF))
 }
 
 impl Reader<'_> {
-    /// Reads the fill up to the file's end. An empty fill has no record.
+    /// Reads the fill up to the file's or the record's end. An empty fill has no book record.
     pub fn fill(&mut self, inside: &Inside, kind: u16) -> Result<(), Refusal> {
         let Some(byte) = inside.first_byte() else {
             return Ok(());

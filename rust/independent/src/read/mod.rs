@@ -10,6 +10,7 @@ mod fill;
 mod frames;
 mod info;
 pub mod inside;
+pub mod linear;
 mod object;
 mod path;
 mod sealed;

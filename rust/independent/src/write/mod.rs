@@ -31,10 +31,8 @@ fn compose(book: &[u8]) -> Option<Vec<u8>> {
     frame(&mut dump, 1, &info)?;
     frame(&mut dump, 2, &directory)?;
     for (tag, path) in paths {
-        let mut file = vec![path.len() as u8];
-        file.extend(path);
-        file.extend(directory_file(&mut records, tag)?);
-        frame(&mut dump, 3, &file)?;
+        let (kind, file) = directory_file(&mut records, tag)?;
+        frame(&mut dump, kind, &[&[path.len() as u8], path, &file].concat())?;
     }
     if records.done() {
         Some(dump)
@@ -86,11 +84,31 @@ fn directory<'a>(records: &mut Records<'a>) -> Option<(Vec<u8>, Vec<PathEntry<'a
     Some((file, paths))
 }
 
-fn directory_file(records: &mut Records, tag: u8) -> Option<Vec<u8>> {
+/// A directory file and its dump kind: 0118 opens a transparent file, 0119 one of records.
+fn directory_file(records: &mut Records, tag: u8) -> Option<(u16, Vec<u8>)> {
+    if records.take(0x0119).is_some() {
+        return Some((4, linear_file(records, tag)?));
+    }
     records.take(0x0118)?;
-    let mut file = objects(records, tag)?;
-    file.extend(fill(records, 0x0107)?);
+    Some((3, filled(records, tag)?))
+}
+
+/// "records, each a 2-byte length and its bytes"; none if one is too long for that.
+fn linear_file(records: &mut Records, tag: u8) -> Option<Vec<u8>> {
+    let mut file = Vec::new();
+    while records.take(0x011A).is_some() {
+        let bytes = filled(records, tag)?;
+        file.extend(u16::try_from(bytes.len()).ok()?.to_le_bytes());
+        file.extend(bytes);
+    }
     Some(file)
+}
+
+/// Objects, then fill: a transparent file, or one record.
+fn filled(records: &mut Records, tag: u8) -> Option<Vec<u8>> {
+    let mut bytes = objects(records, tag)?;
+    bytes.extend(fill(records, 0x0107)?);
+    Some(bytes)
 }
 
 /// All objects that follow here.

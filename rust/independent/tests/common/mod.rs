@@ -1,5 +1,19 @@
-//! Small helps to write dumps down.
+//! Small helps to write dumps down, and to say what they come to.
 #![allow(dead_code)]
+
+use independent::{read, write};
+
+/// The dump is refused with this number, at this place.
+pub fn refused(dump: &[u8], number: u32, place: usize) {
+    assert_eq!(read(dump), Err((number, place)));
+}
+
+/// The dump is accepted, and its book, written, gives it back.
+pub fn accepted(dump: &[u8]) -> Vec<u8> {
+    let book = read(dump).unwrap();
+    assert_eq!(write(&book).as_deref(), Ok(dump));
+    book
+}
 
 /// Bytes from hex digits; spaces do not count.
 pub fn hex(text: &str) -> Vec<u8> {
@@ -48,6 +62,17 @@ pub fn inline(entry: u8, objects: &[Vec<u8>]) -> Vec<u8> {
 pub fn filed(entry: u8, file: &[u8]) -> Vec<u8> {
     let od = tlv(entry, &[hex("300404024401")]);
     [with_od(&od), record(3, &[hex("024401"), file.to_vec()].concat())].concat()
+}
+
+/// One record of a record file.
+pub fn part(bytes: &[u8]) -> Vec<u8> {
+    [&(bytes.len() as u16).to_le_bytes(), bytes].concat()
+}
+
+/// As `filed`, but a record file: its record is at 24, the first record's length at 31, its bytes at 33.
+pub fn linear(entry: u8, records: &[Vec<u8>]) -> Vec<u8> {
+    let od = tlv(entry, &[hex("300404024401")]);
+    [with_od(&od), record(4, &[hex("024401"), records.concat()].concat())].concat()
 }
 
 /// A data container: at 0 the object, 2 the common, 4 the class, 6 the A1, 8 its NULL. Ten bytes.

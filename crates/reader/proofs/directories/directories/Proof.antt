@@ -1,6 +1,6 @@
 use Prim.Native.Nat.{_-_}
 use lib.ListN.{length}
-use Rattle.reader.proofs.DirectoriesLaws.{Turning, turning-start, turning-short, turning-all, turning-word, turning-tag, turning-step, turning-sound, turning-fell, turning-lies, turning-again, file-mid, file-high, file-room, file-place, file-less}
+use Rattle.reader.proofs.DirectoriesLaws.{Turning, turning-start, turning-short, turning-all, turning-word, turning-tag, turning-step, turning-sound, turning-sorted, turning-fell, turning-lies, turning-again, file-mid, file-high, file-room, file-place, file-less}
 use borrow.Author.Needs.{needs}
 use Rattle.reader.proofs.directories.directories.Statement.{statement}
 use Rattle.reader.proofs.directories.directories.Tie as tie
@@ -26,21 +26,21 @@ directories-spec =
     (λ c. search needs)  -- same-length-3
     (λ c. search needs)  -- same-length-4
     (λ c. search (turning-sound, needs))  -- returns-2
-    (λ c. search needs)  -- enum-known-a
+    (λ c. search needs)  -- enum-known-kind
     (λ c. search (turning-word, needs))  -- add-m
     (λ c κs. search (turning-word, needs))  -- word-requires
     (λ c. search (turning-step, needs))  -- add-m-2
-    (λ c. search (turning-tag, needs))  -- add-directory
-    (λ c. search (turning-tag, needs))  -- slice-read-directory
-    (λ c κs. (c .before .before .before .before .before .before .before .before .before .before .before .loop .inv .few, file-room (c .before .before .before .before .before .before .before .before .named-frame .ensures .2) (c .before .before .before .before .before .before .a .given .1) (c .before .before .before .before .before .before .before .before .before .before .before .loop .inv .room), (file-mid (c .before .before .before .before .before .before .before .before .named-frame .ensures .2) (c .before .before .before .before .before .before .a .given .1), file-high (c .before .before .before .before .before .before .before .before .named-frame .ensures .2) (c .before .before .before .before .before .before .a .given .1), c .before .before .before .before .before .before .before .before .before .before .before .before .before .before .before .before .before .pre .3, file-place (c .before .before .before .before .before .before .before .before .named-frame .ensures .2) (c .before .before .before .before .before .before .a .given .1) (c .before .before .before .before .before .before .before .before .before .before .before .loop .inv .room))))  -- directory-requires
+    (λ c. search (turning-tag, needs))  -- add-file-of
+    (λ c. search (turning-tag, needs))  -- slice-read-file-of
+    (λ c κs. (c .before .before .before .before .before .before .before .before .before .before .before .loop .inv .few, turning-sorted (c .before .before .before .before .before .before .before .before .before .before .before .loop .inv) (c .before .before .before .before .before .before .before .before .before .before .loop-test .taken) (c .before .before .before .before .before .before .before .before .before .if1 .left) (c .before .before .before .before .before .before .before .before .named-frame .ensures .0) (c .before .before .before .before .before .before .kind .given .1), file-room (c .before .before .before .before .before .before .before .before .named-frame .ensures .2) (c .before .before .before .before .before .before .kind .given .1) (c .before .before .before .before .before .before .before .before .before .before .before .loop .inv .room), (file-mid (c .before .before .before .before .before .before .before .before .named-frame .ensures .2) (c .before .before .before .before .before .before .kind .given .1), file-high (c .before .before .before .before .before .before .before .before .named-frame .ensures .2) (c .before .before .before .before .before .before .kind .given .1), c .before .before .before .before .before .before .before .before .before .before .before .before .before .before .before .before .before .pre .3, file-place (c .before .before .before .before .before .before .before .before .named-frame .ensures .2) (c .before .before .before .before .before .before .kind .given .1) (c .before .before .before .before .before .before .before .before .before .before .before .loop .inv .room))))  -- file-of-requires
     (λ c. search needs)  -- enum-known-f-2
     (λ c. search needs)  -- same-length-5
     (λ c. search needs)  -- same-length-6
     (λ c. search (turning-fell, needs))  -- returns-3
     (λ c. search needs)  -- enum-known-q
-    (λ c κs. turning-lies (c .before .before .before .before .before .before .before .before .before .before .before .before .before .before .before .before .before .before .before .before .loop .inv) (c .before .before .before .before .before .before .before .before .before .before .before .before .before .before .before .before .before .before .before .loop-test .taken) (c .before .before .before .before .before .before .before .before .before .before .before .before .before .before .before .before .before .before .if1 .left) (c .before .before .before .before .before .before .before .before .before .before .before .before .before .before .before .before .before .named-frame .ensures .0) (c .before .before .before .before .before .before .before .before .before .before .before .before .before .before .before .a .given .1) (c .before .before .before .before .before .before .before .before .directory .ensures) (c .before .before .q .given .1) (file-high (c .before .before .before .before .before .before .before .before .before .before .before .before .before .before .before .before .before .named-frame .ensures .2) (c .before .before .before .before .before .before .before .before .before .before .before .before .before .before .before .a .given .1)) (c .before .before .before .before .before .before .before .before .before .before .before .before .word .ensures))  -- next-name-requires-2
-    (λ c. file-less (c .before .before .before .before .before .before .before .before .before .before .before .before .before .before .before .before .before .before .named-frame .ensures .2) (c .before .before .before .before .before .before .before .before .before .before .before .before .before .before .before .before .a .given .1) (c .before .before .before .before .before .before .before .before .before .before .before .before .before .before .before .before .before .before .before .if1 .left))  -- loop-less
-    (λ c. turning-again (c .before .before .before .before .before .before .before .before .before .before .before .before .before .before .before .before .before .before .before .before .before .loop .inv) (c .before .before .before .before .before .before .before .before .before .before .before .before .before .before .before .before .before .before .before .before .loop-test .taken) (c .before .before .before .before .before .before .before .before .before .before .before .before .before .before .before .before .before .before .before .if1 .left) (c .before .before .before .before .before .before .before .before .before .before .before .before .before .before .before .before .before .before .named-frame .ensures .0) (c .before .before .before .before .before .before .before .before .before .before .before .before .before .before .before .before .a .given .1) (c .before .before .before .before .before .before .before .before .before .directory .ensures) (c .before .before .before .q .given .1) (file-high (c .before .before .before .before .before .before .before .before .before .before .before .before .before .before .before .before .before .before .named-frame .ensures .2) (c .before .before .before .before .before .before .before .before .before .before .before .before .before .before .before .before .a .given .1)) (c .before .before .before .before .before .before .before .before .before .before .before .before .before .word .ensures) (c .next-name2 .ensures))  -- loop-again
+    (λ c κs. turning-lies (c .before .before .before .before .before .before .before .before .before .before .before .before .before .before .before .before .before .before .before .before .loop .inv) (c .before .before .before .before .before .before .before .before .before .before .before .before .before .before .before .before .before .before .before .loop-test .taken) (c .before .before .before .before .before .before .before .before .before .before .before .before .before .before .before .before .before .before .if1 .left) (c .before .before .before .before .before .before .before .before .before .before .before .before .before .before .before .before .before .named-frame .ensures .0) (c .before .before .before .before .before .before .before .before .before .before .before .before .before .before .before .kind .given .1) (c .before .before .before .before .before .before .before .before .file-of .ensures) (c .before .before .q .given .1) (file-high (c .before .before .before .before .before .before .before .before .before .before .before .before .before .before .before .before .before .named-frame .ensures .2) (c .before .before .before .before .before .before .before .before .before .before .before .before .before .before .before .kind .given .1)) (c .before .before .before .before .before .before .before .before .before .before .before .before .word .ensures))  -- next-name-requires-2
+    (λ c. file-less (c .before .before .before .before .before .before .before .before .before .before .before .before .before .before .before .before .before .before .named-frame .ensures .2) (c .before .before .before .before .before .before .before .before .before .before .before .before .before .before .before .before .kind .given .1) (c .before .before .before .before .before .before .before .before .before .before .before .before .before .before .before .before .before .before .before .if1 .left))  -- loop-less
+    (λ c. turning-again (c .before .before .before .before .before .before .before .before .before .before .before .before .before .before .before .before .before .before .before .before .before .loop .inv) (c .before .before .before .before .before .before .before .before .before .before .before .before .before .before .before .before .before .before .before .before .loop-test .taken) (c .before .before .before .before .before .before .before .before .before .before .before .before .before .before .before .before .before .before .before .if1 .left) (c .before .before .before .before .before .before .before .before .before .before .before .before .before .before .before .before .before .before .named-frame .ensures .0) (c .before .before .before .before .before .before .before .before .before .before .before .before .before .before .before .before .kind .given .1) (c .before .before .before .before .before .before .before .before .before .file-of .ensures) (c .before .before .before .q .given .1) (file-high (c .before .before .before .before .before .before .before .before .before .before .before .before .before .before .before .before .before .before .named-frame .ensures .2) (c .before .before .before .before .before .before .before .before .before .before .before .before .before .before .before .before .kind .given .1)) (c .before .before .before .before .before .before .before .before .before .before .before .before .before .word .ensures) (c .next-name2 .ensures))  -- loop-again
     (λ c. search needs)  -- same-length-7
     (λ c. search needs)  -- same-length-8
     (λ c. search (turning-all, needs)))  -- returns-4

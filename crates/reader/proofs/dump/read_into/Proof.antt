@@ -1,4 +1,5 @@
-use Rattle.reader.proofs.StageLaws.{into-long, inner-low, inner-mid, inner-high, into-first, into-second, into-chain, into-parts, into-framing}
+use Rattle.reader.proofs.FrameLaws.{inner-low, inner-mid, inner-high}
+use Rattle.reader.proofs.StageLaws.{into-long, into-first, into-second, into-chain, into-parts, into-framing}
 use borrow.Author.Needs.{needs}
 use Rattle.reader.proofs.dump.read_into.Statement.{statement}
 use Rattle.reader.proofs.dump.read_into.Tie as tie

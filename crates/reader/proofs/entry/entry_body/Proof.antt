@@ -1,5 +1,6 @@
 use borrow.Author.Needs.{needs}
-use Rattle.reader.proofs.EntryLaws.{range-low, range-high, body-known, body-context, body-neither, objects-fell, objects-did, plain-sealed}
+use Rattle.reader.proofs.EntryLaws.{range-low, range-high, body-known, body-context, body-neither, plain-sealed}
+use Rattle.reader.proofs.ObjectsLaws.{objects-fell, objects-did}
 use Rattle.reader.proofs.entry.entry_body.Statement.{statement}
 use Rattle.reader.proofs.entry.entry_body.Tie as tie
 

@@ -1,6 +1,7 @@
 use borrow.Author.Needs.{needs}
 use Rattle.objects.specs.DidLaws.{head-low, head-mid, head-high, head-room}
-use Rattle.reader.proofs.EntryLaws.{element-none, element-objects, in-path, in-objects, in-other, objects-fell, objects-did, plain-path}
+use Rattle.reader.proofs.EntryLaws.{element-none, element-objects, in-path, in-objects, in-other, plain-path}
+use Rattle.reader.proofs.ObjectsLaws.{objects-fell, objects-did}
 use Rattle.reader.proofs.entry.entry_inside.Statement.{statement}
 use Rattle.reader.proofs.entry.entry_inside.Tie as tie
 

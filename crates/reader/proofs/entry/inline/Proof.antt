@@ -1,5 +1,5 @@
 use borrow.Author.Needs.{needs}
-use Rattle.reader.proofs.EntryLaws.{objects-front}
+use Rattle.reader.proofs.ObjectsLaws.{objects-front}
 use Rattle.reader.proofs.entry.inline.Statement.{statement}
 use Rattle.reader.proofs.entry.inline.Tie as tie
 

@@ -1,5 +1,6 @@
 use borrow.Author.Needs.{needs}
-use Rattle.reader.proofs.EntryLaws.{objects-high, objects-small, objects-fails, objects-ends, objects-ends-fell, plain-ended}
+use Rattle.reader.proofs.ObjectsLaws.{objects-high, objects-small, objects-fails, objects-ends, objects-ends-fell}
+use Rattle.reader.proofs.EntryLaws.{plain-ended}
 use Rattle.reader.proofs.entry.known_entry.Statement.{statement}
 use Rattle.reader.proofs.entry.known_entry.Tie as tie
 

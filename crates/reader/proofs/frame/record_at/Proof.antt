@@ -1,7 +1,7 @@
 use Prim.Native.Nat.{_+_}
 use native.Mathlib.Omega.{arith}
 use borrow.Author.Needs.{needs}
-use Rattle.reader.proofs.FrameLaws.{span-missing, span-short, span-small, span-long, span-from, span-kind}
+use Rattle.reader.proofs.FrameLaws.{span-missing, span-short, span-small, span-long, span-below, span-above, span-from}
 use Rattle.reader.proofs.frame.record_at.Statement.{statement}
 use Rattle.reader.proofs.frame.record_at.Tie as tie
 
@@ -18,8 +18,9 @@ record-at-spec =
     (λ c. search (span-long, needs))  -- returns-4
     (λ c. search needs)  -- add-word
     (λ c κs. search needs)  -- word-requires-2
+    (λ c. search (span-below, needs))  -- returns-5
+    (λ c. search (span-above, needs))  -- returns-6
+    (λ c. search needs)  -- add-t10
     (λ c. search needs)  -- add-t13
-    (λ c. search needs)  -- add-t14
-    (λ c. search needs)  -- add-t15
-    (λ c. search (span-from, needs))  -- returns-5
-    (λ c. search (span-kind, needs)))  -- returns-6
+    (λ c. search needs)  -- add-t7
+    (λ c. search (span-from, needs)))  -- returns-7

@@ -1,4 +1,4 @@
-use Rattle.writer.proofs.MadeLaws.{made-ended, within-made, closed-onward}
+use Rattle.writer.proofs.MadeLaws.{made-ended, within-made, wrap-grows, closed-onward}
 use Rattle.writer.proofs.MakeEntryLaws.{entry-known, entry-kept, onward-behind}
 use borrow.Author.Needs.{needs}
 use Rattle.writer.proofs.make_entry.make_entry.Statement.{statement}
@@ -16,7 +16,7 @@ make-entry-spec =
     (λ c κs. search needs)  -- byte-at-requires-2
     (λ c κs. search (made-ended, needs))  -- closed-requires
     (λ c. search needs)  -- same-length
-    (λ c. (search (entry-known, within-made, needs), search (closed-onward, needs)))  -- returns
+    (λ c. (search (entry-known, within-made, needs), search (closed-onward, wrap-grows, needs)))  -- returns
     (λ c κs. search needs)  -- tail-of-requires
     (λ c κs. search needs)  -- make-part-requires
     (λ c. search needs)  -- same-length-2

@@ -1,4 +1,4 @@
-use Rattle.writer.proofs.MakeTypeLaws.{either-yes, either-no}
+use Rattle.writer.proofs.MadeLaws.{either-yes, either-no}
 use borrow.Author.Needs.{needs}
 use Rattle.writer.proofs.make_type.certificate_value.Statement.{statement}
 use Rattle.writer.proofs.make_type.certificate_value.Tie as tie

@@ -1,10 +1,10 @@
 use borrow.Author.Needs.{needs}
-use Rattle.reader.proofs.EntryLaws.{objects-front}
-use Rattle.reader.proofs.entry.file_objects.Statement.{statement}
-use Rattle.reader.proofs.entry.file_objects.Tie as tie
+use Rattle.reader.proofs.ObjectsLaws.{objects-front}
+use Rattle.reader.proofs.holder.opened.Statement.{statement}
+use Rattle.reader.proofs.holder.opened.Tie as tie
 
-pub file-objects-spec : {M : Type 1} → statement M
-file-objects-spec =
+pub opened-spec : {M : Type 1} → statement M
+opened-spec =
     tie.close (tie.spec
     (λ c κs. search needs)  -- put-bare-requires
     (λ c κs. search needs)  -- objects-requires
