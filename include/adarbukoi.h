@@ -24,9 +24,11 @@ extern "C" {
 #define ADARBUKOI_VERSION_MINOR 1
 #define ADARBUKOI_VERSION "0.1"
 
-/* The most bytes that an accepted dump has, and its book; and the most objects. A buffer of BOOK_MOST holds every book. */
+/* The most bytes that an accepted dump has, its book, and a label; and the most objects. A buffer of BOOK_MOST holds every
+ * book. A label has at most 255 characters, of one to four bytes each. */
 #define ADARBUKOI_DUMP_MOST 32768
 #define ADARBUKOI_BOOK_MOST 131072
+#define ADARBUKOI_LABEL_MOST 1020
 #define ADARBUKOI_OBJECTS_MOST 128
 
 /* Refusals. The place is a dump offset, but for ROOM (the size needed, in bytes, or for the list in numbers) and for
@@ -39,7 +41,8 @@ enum {
     ADARBUKOI_LENGTH = 4,   /* bad length form, cut off, or beyond its container */
     ADARBUKOI_MISSING = 5,  /* a container ends early; the place is its end */
     ADARBUKOI_VALUE = 6,    /* a value is not in its form, or a default is written */
-    ADARBUKOI_RANGE = 7,    /* outside a stated bound, lengths included; the 256th condition of one list */
+    ADARBUKOI_RANGE = 7,    /* outside a stated bound, lengths included (of a label in characters); the 256th
+                               condition of one list */
     ADARBUKOI_RULE = 8,     /* index without length or the reverse; pwdFlags bits 6 and 7 both set */
     ADARBUKOI_DEPTH = 9,    /* one level too many */
     ADARBUKOI_MANY = 10,    /* the 129th object */
@@ -61,7 +64,7 @@ enum {
 
 /* Kinds of an object's fields. A number has 4 bytes, its low byte first; in flags named bit i counts 2^i. */
 enum {
-    ADARBUKOI_LABEL = 0x0121,                /* text */
+    ADARBUKOI_LABEL = 0x0121,                /* text: UTF-8, at most 255 characters; no NUL is behind it */
     ADARBUKOI_FLAGS = 0x0122,                /* number: 0 private, 1 modifiable, 2 internal */
     ADARBUKOI_AUTH_ID = 0x0123,              /* bytes: the identifier that protects the object */
     ADARBUKOI_USER_CONSENT = 0x0124,         /* number */

@@ -28,11 +28,28 @@ static const char *class_of(uint32_t i) {
     return 0;
 }
 
-/* text inside a quoted string of Graphviz's: quotes and backslashes marked, control characters left out */
+/* a byte of text inside a quoted string of Graphviz's: quotes, backslashes and & marked */
+static void put_byte(uint8_t c) {
+    if (c == '"' || c == '\\') putchar('\\');
+    putchar(c);
+    if (c == '&') printf("amp;");
+}
+
+/* a label, control characters (U+0000 to U+001F, U+007F to U+009F) left out; a line of 40 characters or more ends behind its next space */
 static void put_text(const uint8_t *s, uint64_t n) {
+    unsigned line = 0;
     for (uint64_t i = 0; i < n; i++) {
-        if (s[i] == '"' || s[i] == '\\') putchar('\\');
-        if (s[i] >= 32) putchar(s[i]);
+        if (s[i] < 32 || s[i] == 127) continue;
+        if (s[i] == 0xC2 && s[i + 1] < 0xA0) {
+            i++;
+            continue;
+        }
+        put_byte(s[i]);
+        line += (s[i] & 0xC0) != 0x80;
+        if (s[i] == ' ' && line >= 40) {
+            printf("\\n");
+            line = 0;
+        }
     }
 }
 

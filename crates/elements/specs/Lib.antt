@@ -27,5 +27,6 @@ pub mod FlagLaws
 pub mod PutLaws
 pub mod RecordLaws
 pub mod TextLaws
+pub mod CharacterLaws
 pub mod TimeLaws
 pub mod ValueLaws

@@ -83,19 +83,19 @@ char-read n r (char e t) = rw (e, textFrom) (tails-read (n + 1) r t)
 
 -- ---- from a scalar value to its bytes
 -- how many bytes a scalar value takes, and which
-size1 : (u : ℕ) → u < 0x80 → utf8 u ≡ u ∷ []
+pub size1 : (u : ℕ) → u < 0x80 → utf8 u ≡ u ∷ []
 unfolding utf8
 size1 u h = rw (lt-ltb u 0x80 h)
 
-size2 : (u : ℕ) → 0x80 ≤ u → u < 0x800 → utf8 u ≡ (0xc0 + u / 64) ∷ (0x80 + u % 64) ∷ []
+pub size2 : (u : ℕ) → 0x80 ≤ u → u < 0x800 → utf8 u ≡ (0xc0 + u / 64) ∷ (0x80 + u % 64) ∷ []
 unfolding utf8
 size2 u l h = rw (le-ltb u 0x80 l, lt-ltb u 0x800 h)
 
-size3 : (u : ℕ) → 0x800 ≤ u → u < 0x10000 → utf8 u ≡ (0xe0 + u / 4096) ∷ (0x80 + u / 64 % 64) ∷ (0x80 + u % 64) ∷ []
+pub size3 : (u : ℕ) → 0x800 ≤ u → u < 0x10000 → utf8 u ≡ (0xe0 + u / 4096) ∷ (0x80 + u / 64 % 64) ∷ (0x80 + u % 64) ∷ []
 unfolding utf8
 size3 u l h = rw (le-ltb u 0x80 (omega arith), le-ltb u 0x800 l, lt-ltb u 0x10000 h)
 
-size4 : (u : ℕ) → 0x10000 ≤ u → utf8 u ≡ (0xf0 + u / 262144) ∷ (0x80 + u / 4096 % 64) ∷ (0x80 + u / 64 % 64) ∷ (0x80 + u % 64) ∷ []
+pub size4 : (u : ℕ) → 0x10000 ≤ u → utf8 u ≡ (0xf0 + u / 262144) ∷ (0x80 + u / 4096 % 64) ∷ (0x80 + u / 64 % 64) ∷ (0x80 + u % 64) ∷ []
 unfolding utf8
 size4 u l = rw (le-ltb u 0x80 (omega arith), le-ltb u 0x800 (omega arith), le-ltb u 0x10000 l)
 

@@ -5,7 +5,7 @@ use mathlib.Core.Bool.{Bool, true, false}
 use mathlib.Core.List.{List, [], _∷_}
 use native.Mathlib.Omega.{arith}
 use lib.ListN.{length, getD}
-use lib.Seq.{slice, length-slice}
+use lib.Seq.{slice}
 use lib.Dec.{leb, eqb}
 use borrow.Author.Tests.{lt-leb, le-leb}
 use Rattle.elements.specs.declared.fault.Fault.{Fault}
@@ -26,7 +26,7 @@ use Rattle.objects.specs.declared.part.Part.the-variants.{Took, Fails}
 use Rattle.rules.specs.declared.table.Need.{Need}
 use Rattle.rules.specs.declared.table.Need.the-variants.{Default}
 use Rattle.rules.specs.declared.table.Row.{Row}
-use Rattle.rules.specs.Parts.{isDefault, inBounds, payload, valued, rowBody, components}
+use Rattle.rules.specs.Parts.{isDefault, inBounds, sized, payload, valued, rowBody, components}
 use Rattle.objects.specs.Did.{Did, fell}
 use Rattle.objects.specs.DidLaws.{did-one, did-as}
 
@@ -66,49 +66,46 @@ module _ (r : Row) (n : Bool) (m at e : ℕ) where
 as-form : {a b : List ℕ} {o : ℕ} (r : Row) (c : List ℕ) (n : Bool) (m at e : ℕ) {w : Part} {f : Form} (g : Form) → f ≡ g → Did a b o at e (valued r at e (payload g r c n m)) w → Did a b o at e (valued r at e (payload f r c n m)) w
 as-form r c n m at e g z d = rw z d
 
-module _ (s : List ℕ) (r : Row) (n : Bool) (at x e : ℕ) where
-  module _ {t : Bool} (k : e ≤ length s) (w : t ≡ inBounds r n (e - x)) where
-    pub bytes-out : {a : List ℕ} {o : ℕ} → t ≡ false → Did a a o at e (valued r at e (payload Octets r (slice x e s) n 0)) (Fails BadSize at)
+module _ (s : List ℕ) (r : Row) (n : Bool) (m at x e : ℕ) where
+  module _ {t : Bool} (w : t ≡ inBounds r n m) where
+    pub bytes-out : {a : List ℕ} {o : ℕ} → t ≡ false → Did a a o at e (valued r at e (sized r (slice x e s) n m)) (Fails BadSize at)
+    bytes-out y = rw (sym w ∙ y) (fell refl)
+
+    pub bytes-put : {a b : List ℕ} {o q : ℕ} → t ≡ true → at + 2 ≤ x → x ≤ e → o ≤ 8 * at → q ≡ o + 4 + (e - x) → Put a b o q (recordBytes (r .kind) (slice x e s)) → Did a b o at e (valued r at e (sized r (slice x e s) n m)) (Took e q)
+    bytes-put y h i l p f = rw (sym w ∙ y) (did-one (r .kind) (slice x e s) at e f (omega arith) (omega arith))
+
+  abbrev judging : List ℕ → List ℕ → ℕ → Part → Type 0
+  judging a b o w = Did a b o at e (valued r at e (payload (r .form) r (slice x e s) n m)) w
+
+  pub judged-integer : {a b : List ℕ} {o : ℕ} {w : Part} → r .form ≡ Integer → Did a b o at e (valued r at e (payload Integer r [] n m)) w → judging a b o w
+  unfolding payload
+  judged-integer z d = as-form r (slice x e s) n m at e Integer z d
+
+  pub judged-boolean : {a b : List ℕ} {o : ℕ} {w : Part} → r .form ≡ Boolean → Did a b o at e (valued r at e (payload Boolean r [] n m)) w → judging a b o w
+  unfolding payload
+  judged-boolean z d = as-form r (slice x e s) n m at e Boolean z d
+
+  pub judged-octets : {a b : List ℕ} {o : ℕ} {w : Part} → r .form ≡ Octets → Did a b o at e (valued r at e (sized r (slice x e s) n m)) w → judging a b o w
+  unfolding payload
+  judged-octets z d = as-form r (slice x e s) n m at e Octets z d
+
+  pub judged-text : {a b : List ℕ} {o : ℕ} {w : Part} → r .form ≡ Text → Did a b o at e (valued r at e (sized r (slice x e s) n m)) w → judging a b o w
+  unfolding payload
+  judged-text z d = as-form r (slice x e s) n m at e Text z d
+
+  module _ {a b : List ℕ} {o q : ℕ} (h : at + 2 ≤ x) (i : x ≤ e) (l : o ≤ 8 * at) where
+    pub judged-bits : r .form ≡ Bits → q ≡ o + 8 → Put a b o q (recordBytes (r .kind) (le32 m)) → judging a b o (Took e q)
     unfolding payload
-    bytes-out y = rw (length-slice x e s k, sym w ∙ y) (fell refl)
+    judged-bits z p f = as-form r (slice x e s) n m at e Bits z (did-one (r .kind) (le32 m) at e f (omega arith) (omega arith))
 
-    pub bytes-put : {a b : List ℕ} {o q : ℕ} → t ≡ true → at + 2 ≤ x → x ≤ e → o ≤ 8 * at → q ≡ o + 4 + (e - x) → Put a b o q (recordBytes (r .kind) (slice x e s)) → Did a b o at e (valued r at e (payload Octets r (slice x e s) n 0)) (Took e q)
-    unfolding payload
-    bytes-put y h i l p f = rw (length-slice x e s k, sym w ∙ y) (did-one (r .kind) (slice x e s) at e f (omega arith) (omega arith))
-
-  module _ (m : ℕ) where
-    abbrev judging : List ℕ → List ℕ → ℕ → Part → Type 0
-    judging a b o w = Did a b o at e (valued r at e (payload (r .form) r (slice x e s) n m)) w
-
-    pub judged-integer : {a b : List ℕ} {o : ℕ} {w : Part} → r .form ≡ Integer → Did a b o at e (valued r at e (payload Integer r [] n m)) w → judging a b o w
-    unfolding payload
-    judged-integer z d = as-form r (slice x e s) n m at e Integer z d
-
-    pub judged-boolean : {a b : List ℕ} {o : ℕ} {w : Part} → r .form ≡ Boolean → Did a b o at e (valued r at e (payload Boolean r [] n m)) w → judging a b o w
-    unfolding payload
-    judged-boolean z d = as-form r (slice x e s) n m at e Boolean z d
-
-    pub judged-octets : {a b : List ℕ} {o : ℕ} {w : Part} → r .form ≡ Octets → Did a b o at e (valued r at e (payload Octets r (slice x e s) n 0)) w → judging a b o w
-    unfolding payload
-    judged-octets z d = as-form r (slice x e s) n m at e Octets z d
-
-    pub judged-text : {a b : List ℕ} {o : ℕ} {w : Part} → r .form ≡ Text → Did a b o at e (valued r at e (payload Octets r (slice x e s) n 0)) w → judging a b o w
-    unfolding payload
-    judged-text z d = as-form r (slice x e s) n m at e Text z d
-
-    module _ {a b : List ℕ} {o q : ℕ} (h : at + 2 ≤ x) (i : x ≤ e) (l : o ≤ 8 * at) where
-      pub judged-bits : r .form ≡ Bits → q ≡ o + 8 → Put a b o q (recordBytes (r .kind) (le32 m)) → judging a b o (Took e q)
+    module _ (p : q ≡ o + 4 + (e - x)) (f : Put a b o q (recordBytes (r .kind) (slice x e s))) where
+      pub judged-time : r .form ≡ Time → judging a b o (Took e q)
       unfolding payload
-      judged-bits z p f = as-form r (slice x e s) n m at e Bits z (did-one (r .kind) (le32 m) at e f (omega arith) (omega arith))
+      judged-time z = as-form r (slice x e s) n m at e Time z (did-one (r .kind) (slice x e s) at e f (omega arith) (omega arith))
 
-      module _ (p : q ≡ o + 4 + (e - x)) (f : Put a b o q (recordBytes (r .kind) (slice x e s))) where
-        pub judged-time : r .form ≡ Time → judging a b o (Took e q)
-        unfolding payload
-        judged-time z = as-form r (slice x e s) n m at e Time z (did-one (r .kind) (slice x e s) at e f (omega arith) (omega arith))
-
-        pub judged-null : r .form ≡ Null → judging a b o (Took e q)
-        unfolding payload
-        judged-null z = as-form r (slice x e s) n m at e Null z (did-one (r .kind) (slice x e s) at e f (omega arith) (omega arith))
+      pub judged-null : r .form ≡ Null → judging a b o (Took e q)
+      unfolding payload
+      judged-null z = as-form r (slice x e s) n m at e Null z (did-one (r .kind) (slice x e s) at e f (omega arith) (omega arith))
 
 pub boolean-byte : {f : Form} {m : ℕ} → (f ≡ Boolean → m < 256) → f ≡ Boolean → m < 256
 boolean-byte h e = h e

@@ -18,8 +18,8 @@ ghost use Prim.Native.Nat.{_+_, _*_, _≤_, _<_};
 ghost use mathlib.Core.List.{[]};
 ghost use lib.ListN.{length};
 ghost use lib.Seq.{slice};
-ghost use Rattle.elements.specs.declared.answer.Form.the-variants.{Integer, Boolean, Octets};
-ghost use Rattle.rules.specs.Parts.{isDefault, inBounds, payload, valued, component, rowBody, components};
+ghost use Rattle.elements.specs.declared.answer.Form.the-variants.{Integer, Boolean};
+ghost use Rattle.rules.specs.Parts.{isDefault, inBounds, sized, payload, valued, component, rowBody, components};
 ghost use Rattle.rules.specs.Tables.{rowsOf};
 ghost use Rattle.objects.specs.Did.{Did, InElement, InContainer};
 
@@ -79,11 +79,12 @@ fn boolean_row(r: Row, n: bool, m: u32, at: usize, e: usize, out: &mut [u8], o: 
     Part::Took(e, put_one(out, o, r.kind, m as u8))
 }
 
-// The record of bytes whose number is bounded.
+// The record of bytes, where what was told of them, m, is in the bounds of the row.
 fn bytes_row(
     s: &[u8],
     r: Row,
     n: bool,
+    m: u32,
     at: usize,
     a: usize,
     e: usize,
@@ -91,9 +92,9 @@ fn bytes_row(
     o: usize,
 ) -> Part
     requires { ⌜ InElement (now s) at a e o ⌝ }
-    ensures { λ w. ⌜ Did (now (out .entry)) (now (out .exit)) o at e (valued r at e (payload Octets r (slice a e (now (s .entry))) n 0)) w ⌝ }
+    ensures { λ w. ⌜ Did (now (out .entry)) (now (out .exit)) o at e (valued r at e (sized r (slice a e (now (s .entry))) n m)) w ⌝ }
 {
-    if in_bounds(r, n, (e - a) as u32) {
+    if in_bounds(r, n, m) {
         return Part::Took(e, put_record(out, o, r.kind, s, a, e));
     }
     Part::Fails(Fault::BadSize, at)
@@ -118,8 +119,8 @@ fn judged(
     match form {
         Form::Integer => number_row(r, n, m, at, e, out, o),
         Form::Boolean => boolean_row(r, n, m, at, e, out, o),
-        Form::Octets => bytes_row(s, r, n, at, a, e, out, o),
-        Form::Text => bytes_row(s, r, n, at, a, e, out, o),
+        Form::Octets => bytes_row(s, r, n, m, at, a, e, out, o),
+        Form::Text => bytes_row(s, r, n, m, at, a, e, out, o),
         Form::Bits => Part::Took(e, put_number(out, o, r.kind, m)),
         Form::Time => Part::Took(e, put_record(out, o, r.kind, s, a, e)),
         Form::Null => Part::Took(e, put_record(out, o, r.kind, s, a, e)),

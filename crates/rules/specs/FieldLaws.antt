@@ -9,12 +9,10 @@ use lib.Seq.{slice}
 use lib.Dec.{ltb, leb, T, ltb→lt}
 use borrow.Author.Tests.{lt-ltb, leb-true, le-leb, eqb-false, ne-eqb}
 use Rattle.elements.specs.declared.fault.Fault.{Fault}
-use Rattle.elements.specs.declared.fault.Fault.the-variants.{BadSize}
 use Rattle.elements.specs.declared.answer.Form.{Form}
 use Rattle.elements.specs.declared.answer.Form.the-variants as form
 use Rattle.elements.specs.declared.answer.Value.{Value}
 use Rattle.elements.specs.declared.answer.Value.the-variants.{Of, Wrong}
-use Rattle.elements.specs.Choice.{choose}
 use Rattle.elements.specs.ChoiceLaws.{by-choose, by-pick, both-true}
 use Rattle.elements.specs.Lists.{Bytes}
 use Rattle.elements.specs.Put.{le32}
@@ -26,7 +24,7 @@ use Rattle.rules.specs.declared.table.Need.{Need}
 use Rattle.rules.specs.declared.table.Need.the-variants.{Required, Optional, Default}
 use Rattle.rules.specs.declared.table.Row.{Row}
 use Rattle.rules.specs.Reading.{rec, took}
-use Rattle.rules.specs.Parts.{Val, good, wrong, isDefault, inBounds, payload, judged, valued, rowBody, components}
+use Rattle.rules.specs.Parts.{Val, good, wrong, isDefault, inBounds, sized, payload, judged, valued, rowBody, components}
 use Rattle.rules.specs.ValueLaws.{bytes-slice}
 use Rattle.rules.specs.FaultLaws.{ofReading, value-fault}
 use Rattle.rules.specs.TestLaws.{and-left, and-right}
@@ -58,8 +56,16 @@ bounds r false m e = let b = both-true (leb (r .low) m) (leb m (r .high)) e in (
 within-bounds : (r : Row) (m : ℕ) → Within r m → inBounds r false m ≡ true
 within-bounds r m w = rw (le-leb (r .low) m (w .0), le-leb m (r .high) (w .1)) refl
 
-sized : (f : Form) (r : Row) (c : List ℕ) (n : Bool) → (Within r (length c) → Judged f r c (good c)) → Judged f r c (choose (inBounds r n (length c)) (λ _. good c) (λ _. wrong BadSize))
-sized f r c n g = by-choose (Judged f r c) (inBounds r n (length c)) (λ _ e. g (bounds r n (length c) e .1)) (λ _ _. bad tt)
+-- what was told of a size is the size, where it is in bounds
+judges-size : (f : Form) (r : Row) (c : List ℕ) (n : Bool) (m size : ℕ) → r .high < most → m ≡ least size most → (Within r size → Judged f r c (good c)) → Judged f r c (sized r c n m)
+judges-size f r c n m size h q g =
+    by-choose (Judged f r c) (inBounds r n m) (λ _ e.
+    let k = bounds r n m e .1 in
+    let z : size ≡ m = exact m size q (omega (arith, k .1)) in
+    g (rw z k)) (λ _ _. bad tt)
+
+pub small-told : (m : ℕ) → m < most → m ≡ least m most
+small-told m h = rw (lt-ltb m most h) refl
 
 judges : (f : Form) (r : Row) (c : List ℕ) (n : Bool) (m : ℕ) → r .high < most → Encodes f c n m → Judged f r c (payload f r c n m)
 unfolding payload
@@ -73,8 +79,8 @@ judges form.Boolean r c n m h w =
     by-choose (Judged form.Boolean r c) (isDefault (r .need) n m) (λ _ _. bad tt) (λ _ d. fine {p = m ∷ []} m (w .1, not-default (r .need) m (rw (w .0) at d)) (w .2) refl)
 judges form.Bits r c n m h w = fine {p = le32 m} m (w .1) (w .2) refl
 judges form.Null r c n m h w = fine {p = c} tt tt (w .2) (w .2)
-judges form.Octets r c n m h w = sized form.Octets r c n (λ b. fine c b refl refl)
-judges form.Text r c n m h w = sized form.Text r c n (λ b. fine c (record { scalars = w .1 .scalars; each = w .1 .each; is = w .1 .bytes }, b) refl refl)
+judges form.Octets r c n m h w = judges-size form.Octets r c n m (length c) h (w .1) (λ b. fine c b refl refl)
+judges form.Text r c n m h w = judges-size form.Text r c n m (length (w .1 .scalars)) h (w .1 .count) (λ b. fine (w .1 .scalars) (w .1 .each, b) (w .1 .bytes) (w .1 .bytes))
 judges form.Time r c n m h w = fine {p = c} c (w .2) refl refl
 
 -- and back
@@ -87,14 +93,14 @@ made : (f : Form) (r : Row) (v : Worth f) → r .high < most → Fine f r v → 
 unfolding payload
 made form.Integer r v h w = record {
   m = v;
-  encodes = record { size = v; signed = λ (e : false ≡ true). let z : _≡_ {A = ℕ} 0 1 = cc in absurd (omega arith); bytes = refl; told = rw (lt-ltb v most (omega (arith, w .0 .1))) refl };
+  encodes = record { size = v; signed = λ (e : false ≡ true). let z : _≡_ {A = ℕ} 0 1 = cc in absurd (omega arith); bytes = refl; told = small-told v (omega (arith, w .0 .1)) };
   pays = rw (default-not (r .need) v (w .1), within-bounds r v (w .0)) refl;
 }
 made form.Boolean r v h w = record { m = v; encodes = (refl, w .0, refl); pays = rw (default-not (r .need) v (w .1)) refl }
 made form.Bits r v h w = record { m = v; encodes = (refl, w, refl); pays = refl }
 made form.Null r v h w = record { m = 0; encodes = (refl, refl, refl); pays = refl }
-made form.Octets r v h w = record { m = least (length v) most; encodes = (refl, refl); pays = rw (within-bounds r (length v) w) refl }
-made form.Text r v h w = record { m = least (length (w .0 .scalars)) most; encodes = (refl, record { scalars = w .0 .scalars; each = w .0 .each; bytes = w .0 .is; count = refl }); pays = rw (within-bounds r (length v) (w .1)) refl }
+made form.Octets r v h w = record { m = length v; encodes = (refl, small-told (length v) (omega (arith, w .1))); pays = rw (within-bounds r (length v) w) refl }
+made form.Text r v h w = record { m = length v; encodes = (refl, record { scalars = v; each = w .0; bytes = refl; count = small-told (length v) (omega (arith, w .1 .1)) }); pays = rw (within-bounds r (length v) (w .1)) refl }
 made form.Time r v h w = record { m = 0; encodes = (refl, refl, w); pays = refl }
 
 -- tags of one byte, numbers that fit, and no component taken for another

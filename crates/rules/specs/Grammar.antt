@@ -195,7 +195,7 @@ unlessEmpty kind (x ∷ c) = rec kind (x ∷ c) ∷ []
 abbrev pub rest : ℕ → List ℕ → Part
 rest kind out = record { Of = List ℕ; bytes = λ c. c; book = unlessEmpty kind; Meets = SealedRun 16 out }
 
--- the values of a form
+-- the values of a form: a text is its characters, octets are their bytes
 abbrev pub Worth : Form → Type 0
 Worth form.Boolean = ℕ
 Worth form.Integer = ℕ
@@ -211,7 +211,7 @@ contentsOf form.Boolean v = booleanBytes v
 contentsOf form.Integer v = integerBytes false v
 contentsOf form.Bits v = flagBytes v
 contentsOf form.Null v = []
-contentsOf form.Text v = v
+contentsOf form.Text v = utf8s v
 contentsOf form.Time v = v
 contentsOf form.Octets v = v
 
@@ -221,7 +221,7 @@ payOf form.Boolean v = v ∷ []
 payOf form.Integer v = le32 v
 payOf form.Bits v = le32 v
 payOf form.Null v = []
-payOf form.Text v = v
+payOf form.Text v = utf8s v
 payOf form.Time v = v
 payOf form.Octets v = v
 
@@ -231,21 +231,16 @@ NotDefault Required v = Unit {0}
 NotDefault Optional v = Unit {0}
 NotDefault (Default d) v = v ≡ d → ⊥
 
--- bounds of a number, or of a length
+-- a row's bounds: of a number, of how many bytes octets are, of how many characters a text is
 abbrev pub Within : Row → ℕ → Type 0
 Within r v = (r .low ≤ v) × (v ≤ r .high)
-
-pub record WellFormed (c : List ℕ) : Type 0 where
-  pub scalars : List ℕ
-  pub each : Scalars scalars
-  pub is : c ≡ utf8s scalars
 
 abbrev pub Fine : (f : Form) → Row → Worth f → Type 0
 Fine form.Boolean r v = (v < 2) × NotDefault (r .need) v
 Fine form.Integer r v = Within r v × NotDefault (r .need) v
 Fine form.Bits r v = v < 2 ^ 32
 Fine form.Null r v = Unit {0}
-Fine form.Text r v = WellFormed v × Within r (length v)
+Fine form.Text r v = Scalars v × Within r (length v)
 Fine form.Time r v = Moment v
 Fine form.Octets r v = Within r (length v)
 

@@ -13,6 +13,7 @@ pub mod LookLaws
 pub mod RenderLaws
 pub mod GrammarLaws
 pub mod FieldLaws
+pub mod Labels
 pub mod ItemLaws
 pub mod Fills
 pub mod FillLaws

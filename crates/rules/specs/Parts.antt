@@ -43,6 +43,10 @@ isDefault (Default d) n m = not n && eqb m d
 abbrev pub inBounds : Row → Bool → ℕ → Bool
 inBounds r n m = not n && (leb (r .low) m && leb m (r .high))
 
+-- "Identifiers are 0 to 255 bytes"; "The bound becomes 255 characters": a row's bounds are on what its form tells
+abbrev pub sized : Row → List ℕ → Bool → ℕ → Val
+sized r c n m = choose (inBounds r n m) (λ _. good c) (λ _. wrong BadSize)
+
 -- "Flags, integers and enumerations are numbers in the book; BOOLEANs one byte, 00 or 01": what contents c say, as a payload
 unfoldable pub payload : Form → Row → List ℕ → Bool → ℕ → Val
 payload form.Integer r c n m =
@@ -50,8 +54,8 @@ payload form.Integer r c n m =
     (λ _. choose (inBounds r n m) (λ _. good (le32 m)) (λ _. wrong OutOfRange))
 payload form.Boolean r c n m = choose (isDefault (r .need) n m) (λ _. wrong DefaultWritten) (λ _. good (m ∷ []))
 payload form.Bits r c n m = good (le32 m)
-payload form.Octets r c n m = choose (inBounds r n (length c)) (λ _. good c) (λ _. wrong BadSize)
-payload form.Text r c n m = choose (inBounds r n (length c)) (λ _. good c) (λ _. wrong BadSize)
+payload form.Octets r c n m = sized r c n m
+payload form.Text r c n m = sized r c n m
 payload form.Time r c n m = good c
 payload form.Null r c n m = good c
 

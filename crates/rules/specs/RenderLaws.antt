@@ -12,6 +12,7 @@ use borrow.Author.Tests.{eq-eqb}
 use Rattle.elements.specs.declared.answer.Form.{Form}
 use Rattle.elements.specs.declared.answer.Form.the-variants as form
 use Rattle.elements.specs.ChoiceLaws.{all-both}
+use Rattle.elements.specs.CharacterLaws.{utf8s-one}
 use Rattle.elements.specs.Integer.{most}
 use Rattle.elements.specs.Put.{le16, le32}
 use Rattle.rules.specs.Reading.{Rec, rec, count, number}
@@ -397,7 +398,7 @@ module _ (r : Row) (fits : r .high < most) where
   pay-tells form.Integer u v m l e = same-number u v (omega arith) (omega arith) e
   pay-tells form.Bits u v m l e = same-number u v m l e
   pay-tells form.Null u v m l e = refl
-  pay-tells form.Text u v m l e = e
+  pay-tells form.Text u v m l e = utf8s-one u v e
   pay-tells form.Time u v m l e = e
   pay-tells form.Octets u v m l e = e
 

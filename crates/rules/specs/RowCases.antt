@@ -1,6 +1,6 @@
 -- Every row of every table, held fast: all components at their upper bounds and at their lower ones, the required ones alone,
 -- and what lies one past a bound, lacks, or is not in its form.
-use Prim.Native.Nat.{ℕ}
+use Prim.Native.Nat.{ℕ, zero, suc}
 use mathlib.Core.Path.{_≡_, refl}
 use mathlib.Core.List.{List, [], _∷_, _++_, map}
 use lib.ListN.{replicate}
@@ -37,6 +37,18 @@ has rs ws bs = record { rows = rs; written = ws; answer = book (encode bs) }
 abbrev lacks : List Row → ℕ → ℕ → List Written → Case
 lacks rs n p ws = record { rows = rs; written = ws; answer = refusal n p }
 
+-- so many of a character, by its bytes
+abbrev copies : ℕ → List ℕ → List ℕ
+copies zero c = []
+copies (suc n) c = c ++ copies n c
+
+-- Α, U+0391; the G clef, U+1D11E
+abbrev alpha : List ℕ
+alpha = 0xce ∷ 0x91 ∷ []
+
+abbrev clef : List ℕ
+clef = 0xf0 ∷ 0x9d ∷ 0x84 ∷ 0x9e ∷ []
+
 -- 29 February 2000, 23:59:59
 abbrev leapDay : List ℕ
 leapDay = 50 ∷ 48 ∷ 48 ∷ 48 ∷ 48 ∷ 50 ∷ 50 ∷ 57 ∷ 50 ∷ 51 ∷ 53 ∷ 57 ∷ 53 ∷ 57 ∷ 90 ∷ []
@@ -45,7 +57,7 @@ pub table : List Case
 unfolding encode wrap
 table =
     -- CIAInfo: upper bounds
-    has ciaRows (part 0x02 (0x00 ∷ 0xff ∷ []) ∷ part 0x04 (replicate 255 0xff) ∷ part 0x0c (replicate 255 0x41) ∷ part 0x80 (replicate 255 0x41) ∷ part 0x03 (0x07 ∷ 0x80 ∷ []) ∷ []) (rec 0x0101 (le32 255) ∷ rec 0x0102 (replicate 255 0xff) ∷ rec 0x0103 (replicate 255 0x41) ∷ rec 0x0104 (replicate 255 0x41) ∷ rec 0x0105 (le32 1) ∷ []) ∷
+    has ciaRows (part 0x02 (0x00 ∷ 0xff ∷ []) ∷ part 0x04 (replicate 255 0xff) ∷ part 0x0c (copies 255 clef) ∷ part 0x80 (copies 255 clef) ∷ part 0x03 (0x07 ∷ 0x80 ∷ []) ∷ []) (rec 0x0101 (le32 255) ∷ rec 0x0102 (replicate 255 0xff) ∷ rec 0x0103 (copies 255 clef) ∷ rec 0x0104 (copies 255 clef) ∷ rec 0x0105 (le32 1) ∷ []) ∷
     -- CIAInfo: lower bounds
     has ciaRows (part 0x02 (0x00 ∷ []) ∷ part 0x04 [] ∷ part 0x0c [] ∷ part 0x80 [] ∷ part 0x03 (0x00 ∷ []) ∷ []) (rec 0x0101 (le32 0) ∷ rec 0x0102 [] ∷ rec 0x0103 [] ∷ rec 0x0104 [] ∷ rec 0x0105 (le32 0) ∷ []) ∷
     -- CIAInfo: what is required
@@ -56,24 +68,32 @@ table =
     lacks ciaRows 3 0 (part 0x03 (0x00 ∷ []) ∷ []) ∷
     -- a serialNumber of 256 bytes
     lacks ciaRows 7 3 (part 0x02 (0x00 ∷ []) ∷ part 0x04 (replicate 256 0xff) ∷ []) ∷
-    -- a manufacturerID of 256 bytes
+    -- a manufacturerID of 256 characters
     lacks ciaRows 7 3 (part 0x02 (0x00 ∷ []) ∷ part 0x0c (replicate 256 0x41) ∷ []) ∷
     -- a manufacturerID that is no text
     lacks ciaRows 6 3 (part 0x02 (0x00 ∷ []) ∷ part 0x0c (0xff ∷ []) ∷ []) ∷
-    -- a label of 256 bytes
+    -- a label of 256 characters
     lacks ciaRows 7 3 (part 0x02 (0x00 ∷ []) ∷ part 0x80 (replicate 256 0x41) ∷ []) ∷
     -- a label that is no text
     lacks ciaRows 6 3 (part 0x02 (0x00 ∷ []) ∷ part 0x80 (0xff ∷ []) ∷ []) ∷
     -- no cardflags
     lacks ciaRows 5 3 (part 0x02 (0x00 ∷ []) ∷ []) ∷
     -- CommonObjectAttributes: upper bounds
-    has commonRows (part 0x0c (replicate 255 0x41) ∷ part 0x03 (0x07 ∷ 0x80 ∷ []) ∷ part 0x04 (replicate 255 0xff) ∷ part 0x02 (0x7f ∷ 0xff ∷ []) ∷ []) (rec 0x0121 (replicate 255 0x41) ∷ rec 0x0122 (le32 1) ∷ rec 0x0123 (replicate 255 0xff) ∷ rec 0x0124 (le32 32767) ∷ []) ∷
+    has commonRows (part 0x0c (copies 255 clef) ∷ part 0x03 (0x07 ∷ 0x80 ∷ []) ∷ part 0x04 (replicate 255 0xff) ∷ part 0x02 (0x7f ∷ 0xff ∷ []) ∷ []) (rec 0x0121 (copies 255 clef) ∷ rec 0x0122 (le32 1) ∷ rec 0x0123 (replicate 255 0xff) ∷ rec 0x0124 (le32 32767) ∷ []) ∷
     -- CommonObjectAttributes: lower bounds
     has commonRows (part 0x0c [] ∷ part 0x03 (0x00 ∷ []) ∷ part 0x04 [] ∷ part 0x02 (0x01 ∷ []) ∷ []) (rec 0x0121 [] ∷ rec 0x0122 (le32 0) ∷ rec 0x0123 [] ∷ rec 0x0124 (le32 1) ∷ []) ∷
     -- CommonObjectAttributes: nothing is required
     has commonRows [] [] ∷
-    -- a label of 256 bytes
+    -- a label of 255 characters of two bytes, and of one
+    has commonRows (part 0x0c (copies 255 alpha) ∷ []) (rec 0x0121 (copies 255 alpha) ∷ []) ∷
+    has commonRows (part 0x0c (replicate 255 0x41) ∷ []) (rec 0x0121 (replicate 255 0x41) ∷ []) ∷
+    -- a label of 256 characters of one byte, of two, and of four
     lacks commonRows 7 0 (part 0x0c (replicate 256 0x41) ∷ []) ∷
+    lacks commonRows 7 0 (part 0x0c (copies 256 alpha) ∷ []) ∷
+    lacks commonRows 7 0 (part 0x0c (copies 256 clef) ∷ []) ∷
+    -- a label of 255 characters, and of 256, and one byte of the next: "after 6"
+    lacks commonRows 6 0 (part 0x0c (copies 255 alpha ++ (0xce ∷ [])) ∷ []) ∷
+    lacks commonRows 6 0 (part 0x0c (copies 256 alpha ++ (0xce ∷ [])) ∷ []) ∷
     -- a label that is no text
     lacks commonRows 6 0 (part 0x0c (0xff ∷ []) ∷ []) ∷
     -- an authId of 256 bytes

@@ -1,4 +1,4 @@
--- A table for each sequence, in the order of document 01: tag, book kind, form, need, bounds (of a number, or of a length). Names are Annex A's.
+-- A table for each sequence, in the order of document 01: tag, book kind, form, need, bounds (of what the form tells: a number, how many bytes, how many characters). Names are Annex A's.
 use Prim.Native.Nat.{ℕ, _-_}
 use lib.ListN.{getD}
 use mathlib.Core.List.{List, [], _∷_, _++_}

@@ -7,7 +7,8 @@ pub enum Need {
     Default(u32),
 }
 
-// A component of a sequence: its tag, its record's kind, its form, whether it must be there, the bounds of its value or length.
+// A component of a sequence: its tag, its record's kind, its form, whether it must be there, and its bounds. What they bound is what the form
+// tells: a number, how many bytes octets are, how many characters a text is.
 pub struct Row {
     pub tag: u8,
     pub kind: u16,

@@ -1,5 +1,5 @@
-//! The generator: whole cards are accepted and written back, each refusal of the reader is seen, and record files of
-//! every sort.
+//! The generator: whole cards are accepted and written back, each refusal of the reader is seen, and record files and
+//! labels of every sort.
 
 use independent::book::{records, Record};
 use independent::generate::{card, damaged_book, dump, Rng};
@@ -77,4 +77,28 @@ fn record_files_of_every_sort_are_seen() {
     assert!((250..=400).contains(&cards), "{cards} of 1000 cards have a record file");
     assert!(mixed >= 20 && empty >= 3 && long >= 3, "{mixed} {empty} {long}");
     assert!(sorts.concat().iter().all(|count| *count >= 20), "{sorts:?}");
+}
+
+#[test]
+fn labels_of_every_width_are_seen() {
+    let (mut labels, mut long, mut mixed) = (0, 0, 0);
+    // 255 characters of one, two, three and four bytes each
+    let mut most = [0; 4];
+    for index in 0..3000 {
+        let book = read(&card::valid(&mut Rng::of_input(4, index)).encode()).unwrap();
+        for label in records(&book).unwrap().iter().filter(|record| matches!(record.kind, 0x0103 | 0x0104 | 0x0121)) {
+            let bytes = label.payload.len();
+            let characters = std::str::from_utf8(label.payload).unwrap().chars().count();
+            labels += 1;
+            long += usize::from(bytes > 255);
+            match bytes % 255 {
+                _ if characters < 255 => {}
+                0 => most[bytes / 255 - 1] += 1,
+                _ => mixed += 1,
+            }
+        }
+    }
+    println!("{labels} labels, {long} of more than 255 bytes, of 255 characters {most:?}, mixed {mixed}");
+    assert!((30..=60).contains(&(long * 1000 / labels)), "{long} of {labels} labels have more than 255 bytes");
+    assert!(mixed >= 3 && most.iter().all(|count| *count >= 3), "{most:?} {mixed}");
 }

@@ -197,7 +197,7 @@ fn ranges() {
     accepted(&common(hex("030500FFFFFFFF")));
     refused(&common(hex("030607FFFFFFFF80")), 7, 24);
     refused(&common(hex("030607FFFFFFFF40")), 6, 24);
-    // 256 bytes: the object's and the common's headers grow by two each, as do entry and list
+    // 256 bytes or characters: the object's and the common's headers grow by two each, as do entry and list
     let long = |tag: u8, byte: u8, count: usize| common(tlv(tag, &[vec![byte; count]]));
     accepted(&long(0x04, 0, 255));
     refused(&long(0x04, 0, 256), 7, 32);

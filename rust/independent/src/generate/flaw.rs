@@ -8,6 +8,8 @@ pub enum Flaw {
     Integer,
     Flags,
     Text,
+    /// A text of one character too many, or no text where the bound is.
+    Characters,
     Time,
     Boolean,
     Octets,
@@ -36,10 +38,11 @@ pub enum Flaw {
     Second,
 }
 
-pub const FLAWS: [Flaw; 18] = [
+pub const FLAWS: [Flaw; 19] = [
     Flaw::Integer,
     Flaw::Flags,
     Flaw::Text,
+    Flaw::Characters,
     Flaw::Time,
     Flaw::Boolean,
     Flaw::Octets,
@@ -62,7 +65,7 @@ impl Maker<'_> {
     pub fn flaw(&mut self, flaw: Flaw) -> bool {
         let percent = match flaw {
             Flaw::Integer | Flaw::Flags | Flaw::Tag | Flaw::Identifier => 12,
-            Flaw::Second => 80,
+            Flaw::Characters | Flaw::Second => 80,
             _ => 40,
         };
         self.flaws.contains(&flaw) && self.rng.chance(percent)

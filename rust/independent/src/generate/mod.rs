@@ -113,6 +113,11 @@ pub fn damaged_book(rng: &mut Rng, book: &[u8]) -> Vec<u8> {
         openings::damage(rng, &mut all);
         return node::join(&all);
     }
+    let texts = text::places(&all);
+    if !texts.is_empty() && rng.chance(6) {
+        all[rng.pick(&texts)].payload = text::at_the_bound(rng);
+        return node::join(&all);
+    }
     if rng.chance(70) {
         return bytes::damage_records(rng, book);
     }

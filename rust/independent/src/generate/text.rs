@@ -2,8 +2,15 @@
 
 use super::flaw::Flaw;
 use super::maker::Maker;
-use super::node::{leaf, Node};
+use super::node::{leaf, Node, Record};
+use super::rng::Rng;
 use crate::read::values::days;
+
+/// The most characters of a text.
+const MOST: usize = 255;
+
+/// A character of each width, a combining mark and a byte order mark.
+const CHARACTERS: [char; 6] = ['a', 'α', '€', '\u{1F511}', '\u{301}', '\u{FEFF}'];
 
 /// Characters at the edges of the forms of UTF-8.
 const EDGES: [u32; 18] = [
@@ -33,6 +40,9 @@ const NO_TEXT: [&[u8]; 18] = [
     b"\xFF",
 ];
 
+/// No UTF-8 at a text's end: a byte that continues nothing, and characters cut off.
+const NO_END: [&[u8]; 7] = [b"\x80", b"\xCE", b"\xE2", b"\xE2\x82", b"\xF0", b"\xF0\x9F", b"\xF0\x9F\x94"];
+
 /// Two digits, and where they make a time wrong, at least in some months.
 const NO_TIME: [(usize, &[u8; 2]); 13] = [
     (4, b"00"),
@@ -50,48 +60,87 @@ const NO_TIME: [(usize, &[u8; 2]); 13] = [
     (13, b"0z"),
 ];
 
+/// Where a book has texts.
+pub fn places(all: &[Record]) -> Vec<usize> {
+    (0..all.len()).filter(|at| matches!(all[*at].kind, 0x0103 | 0x0104 | 0x0121)).collect()
+}
+
+/// A text of as many characters as it may have, one less, or one too many.
+pub fn at_the_bound(rng: &mut Rng) -> Vec<u8> {
+    let count = rng.between(MOST - 1, MOST + 1);
+    characters(rng, count)
+}
+
+/// So many characters: one and the same, or any.
+fn characters(rng: &mut Rng, count: usize) -> Vec<u8> {
+    if rng.chance(50) {
+        return rng.pick(&CHARACTERS).to_string().repeat(count).into_bytes();
+    }
+    (0..count).map(|_| character(rng)).collect::<String>().into_bytes()
+}
+
+fn character(rng: &mut Rng) -> char {
+    let number = match rng.below(5) {
+        0 => rng.pick(&EDGES),
+        1 => rng.between(0x80, 0x7FF) as u32,
+        2 => rng.between(0x800, 0x10_FFFF) as u32,
+        _ => rng.between(0x20, 0x7E) as u32,
+    };
+    char::from_u32(number).unwrap_or('?')
+}
+
+/// Puts what is no text before one of the characters, or behind the last.
+fn insert_no_text(rng: &mut Rng, bytes: &mut Vec<u8>) {
+    let mut at = rng.below(bytes.len() + 1);
+    while at < bytes.len() && bytes[at] & 0xC0 == 0x80 {
+        at += 1;
+    }
+    let more = rng.pick(&NO_TEXT);
+    bytes.splice(at..at, more.iter().copied());
+}
+
 impl Maker<'_> {
     pub fn text(&mut self, tag: u8) -> Node {
-        let mut text = String::new();
-        let bound = self.length(0, 255);
-        loop {
-            let next = self.character();
-            if text.len() + next.len_utf8() > bound {
-                break;
-            }
-            text.push(next);
+        if self.flaw(Flaw::Characters) {
+            return leaf(tag, self.wrong_characters());
         }
-        let mut bytes = text.into_bytes();
+        let mut bytes = if self.rng.chance(5) { self.long_text() } else { self.short_text() };
         if self.flaw(Flaw::Text) {
-            self.spoil_text(&mut bytes);
+            insert_no_text(self.rng, &mut bytes);
         }
         leaf(tag, bytes)
     }
 
-    fn character(&mut self) -> char {
-        let number = match self.rng.below(5) {
-            0 => self.rng.pick(&EDGES),
-            1 => self.rng.between(0x80, 0x7FF) as u32,
-            2 => self.rng.between(0x800, 0x10_FFFF) as u32,
-            _ => self.rng.between(0x20, 0x7E) as u32,
-        };
-        char::from_u32(number).unwrap_or('?')
+    /// A text of at most 255 bytes, mostly of a few.
+    fn short_text(&mut self) -> Vec<u8> {
+        let mut text = String::new();
+        let bound = self.length(0, 255);
+        loop {
+            let next = character(self.rng);
+            if text.len() + next.len_utf8() > bound {
+                return text.into_bytes();
+            }
+            text.push(next);
+        }
     }
 
-    fn spoil_text(&mut self, bytes: &mut Vec<u8>) {
-        match self.rng.below(8) {
-            0 => *bytes = vec![b'a'; 256],
-            1 => *bytes = [vec![b'a'; 255], "é".into()].concat(),
-            2 => *bytes = [vec![b'a'; 255], vec![0x80]].concat(),
-            _ => {
-                let mut at = self.rng.below(bytes.len() + 1);
-                while at < bytes.len() && bytes[at] & 0xC0 == 0x80 {
-                    at += 1;
-                }
-                let more = self.rng.pick(&NO_TEXT);
-                bytes.splice(at..at, more.iter().copied());
-            }
+    /// A text of 64 to 255 characters, often of the most, so of up to 1,020 bytes.
+    fn long_text(&mut self) -> Vec<u8> {
+        let any = self.rng.between(64, MOST);
+        let count = self.rng.pick(&[any, any, 128, MOST - 1, MOST, MOST, MOST]);
+        characters(self.rng, count)
+    }
+
+    /// One character too many, or a text at the bound with what is no text behind it or inside.
+    fn wrong_characters(&mut self) -> Vec<u8> {
+        let mut bytes = at_the_bound(self.rng);
+        match self.rng.below(7) {
+            0..=2 => bytes = characters(self.rng, MOST + 1),
+            3 => bytes = [vec![b'a'; MOST], "é".into()].concat(),
+            4 | 5 => bytes.extend(self.rng.pick(&NO_END)),
+            _ => insert_no_text(self.rng, &mut bytes),
         }
+        bytes
     }
 
     pub fn time(&mut self, tag: u8) -> Node {

@@ -2,6 +2,7 @@
 
 use super::maker::Maker;
 use super::node::{group, Body, Card, File, Node};
+use super::text;
 use crate::write::element::{flag_contents, integer_contents};
 
 /// Damages one element of the card.
@@ -69,6 +70,7 @@ fn other_value(maker: &mut Maker, node: &mut Node) {
         0x02 | 0x0A | 0x80 => integer_contents(maker.rng.pick(&numbers)),
         0x03 => flag_contents(maker.flag_word()),
         0x04 => maker.rng.pick(&[vec![], vec![1], vec![1, 2], vec![3; 64], vec![3; 65], vec![9; 255], vec![9; 256]]),
+        0x0C => text::at_the_bound(maker.rng),
         _ => return resize(maker, node),
     };
     node.body = Body::Bytes(contents);

@@ -59,12 +59,14 @@ pub fn flags(contents: &[u8]) -> Result<u32, u32> {
     Ok(value)
 }
 
-/// "UTF8String is well formed." and at most 255 bytes
+/// "UTF8String is well formed." and "255 characters", whatever their widths
 pub fn text(contents: &[u8]) -> Result<(), u32> {
-    if std::str::from_utf8(contents).is_err() {
-        return Err(VALUE);
+    let text = std::str::from_utf8(contents).map_err(|_| VALUE)?;
+    if text.chars().count() > 255 {
+        Err(RANGE)
+    } else {
+        Ok(())
     }
-    octets(contents, 0, 255)
 }
 
 /// The length of an octet string.

@@ -6,8 +6,6 @@ use Rattle.objects.proofs.row.bytes_row.Tie as tie
 pub bytes-row-spec : {M : Type 1} → statement M
 bytes-row-spec =
     tie.close (tie.spec
-    (λ c. search needs)  -- sub-in-bounds
-    (λ c. search needs)  -- cast-in-bounds
     (λ c κs. search needs)  -- in-bounds-requires
     (λ c κs. search needs)  -- put-record-requires
     (λ c. search needs)  -- same-length
