@@ -35,7 +35,8 @@ static void put_byte(uint8_t c) {
     if (c == '&') printf("amp;");
 }
 
-/* a label, control characters (U+0000 to U+001F, U+007F to U+009F) left out; a line of 40 characters or more ends behind its next space */
+/* a label, control characters (U+0000 to U+001F, U+007F to U+009F) left out; a line of 40 characters or more ends behind
+ * its next space */
 static void put_text(const uint8_t *s, uint64_t n) {
     unsigned line = 0;
     for (uint64_t i = 0; i < n; i++) {

@@ -1,4 +1,4 @@
--- Document 01's shared case and a card with a record file, each as a card: its dump and its book by computing.
+-- Document 01's shared case, a card with a record file and one with texts in two scripts, each as a card: its dump and its book by computing.
 use mathlib.Core.Path.{_≡_, refl}
 use mathlib.Core.List.{[], _∷_}
 use mathlib.Core.Logic.{inl, inr}
@@ -7,6 +7,7 @@ use lib.Count.{leadingZeros}
 use Rattle.elements.specs.Length.{shortest, tagBytes}
 use Rattle.elements.specs.Integer.{integerBytes, spread, spreadBy}
 use Rattle.elements.specs.Bits.{flagBytes, width, flagRun, reversed}
+use Rattle.elements.specs.Encodings.{utf8, utf8s}
 use Rattle.elements.specs.Record.{recordBytes}
 use Rattle.rules.specs.Tables.{typeOf}
 use Rattle.rules.specs.Book.{encode}
@@ -65,3 +66,20 @@ mixed-dump = refl
 mixed-book : encode (bookOf mixedCard) ≡ mixedBook
 unfolding mixedCard card.files entries.object layouts.insides layouts.cia layouts.info typeOf encode recordBytes elementBytes tagBytes shortest
 mixed-book = refl
+
+-- a card without objects: manufacturerID ΑA, Greek and English, and the G clef as its label
+unfoldable labelledCard : Card
+unfolding card.files entries.object typeOf layouts.insides layouts.cia layouts.info
+labelledCard = record {
+  info = (((1, (none, (some (0x391 ∷ 0x41 ∷ []), (some (0x1d11e ∷ []), (0, tt))))), []), none);
+  main = ([], none);
+  dirs = tt;
+}
+
+labelled-dump : dumpOf labelledCard ≡ 0x15 ∷ 0x00 ∷ 0x01 ∷ 0x00 ∷ 0x30 ∷ 0x11 ∷ 0x02 ∷ 0x01 ∷ 0x01 ∷ 0x0c ∷ 0x03 ∷ 0xce ∷ 0x91 ∷ 0x41 ∷ 0x80 ∷ 0x04 ∷ 0xf0 ∷ 0x9d ∷ 0x84 ∷ 0x9e ∷ 0x03 ∷ 0x01 ∷ 0x00 ∷ 0x02 ∷ 0x00 ∷ 0x02 ∷ 0x00 ∷ []
+unfolding labelledCard card.files entries.object layouts.insides layouts.cia layouts.info typeOf elementBytes tagBytes shortest integerBytes spread spreadBy flagBytes width flagRun reversed leadingZeros recordBytes utf8 utf8s
+labelled-dump = refl
+
+labelled-book : encode (bookOf labelledCard) ≡ 0x06 ∷ 0x00 ∷ 0x01 ∷ 0x01 ∷ 0x01 ∷ 0x00 ∷ 0x00 ∷ 0x00 ∷ 0x05 ∷ 0x00 ∷ 0x03 ∷ 0x01 ∷ 0xce ∷ 0x91 ∷ 0x41 ∷ 0x06 ∷ 0x00 ∷ 0x04 ∷ 0x01 ∷ 0xf0 ∷ 0x9d ∷ 0x84 ∷ 0x9e ∷ 0x06 ∷ 0x00 ∷ 0x05 ∷ 0x01 ∷ 0x00 ∷ 0x00 ∷ 0x00 ∷ 0x00 ∷ []
+unfolding labelledCard card.files entries.object layouts.insides layouts.cia layouts.info typeOf encode recordBytes utf8 utf8s
+labelled-book = refl

@@ -1,11 +1,10 @@
 -- Labels in two scripts: "The bound becomes 255 characters, so at most 1,020 bytes, for 0103, 0104 and 0121."
 use Prim.Native.Nat.{ℕ, _≤_, _<_}
 use mathlib.Core.Path.{_≡_, refl}
-use mathlib.Core.Bool.{Bool, true, false, _&&_}
-use mathlib.Core.List.{List, [], _∷_}
+use mathlib.Core.Bool.{false}
+use mathlib.Core.List.{List, [], _∷_, _++_}
 use native.Mathlib.Omega.{arith}
 use lib.ListN.{length}
-use lib.Dec.{eqb}
 use Rattle.elements.specs.declared.answer.Form.{Form}
 use Rattle.elements.specs.declared.answer.Form.the-variants as form
 use Rattle.elements.specs.Encodings.{Scalars, utf8s}
@@ -14,38 +13,28 @@ use Rattle.elements.specs.CharacterLaws.{utf8s-most}
 use Rattle.elements.specs.ValueLaws.{value-complete}
 use Rattle.elements.specs.Values.{value}
 use Rattle.rules.specs.declared.table.Row.{Row}
-use Rattle.rules.specs.declared.table.Sequence.{Sequence}
-use Rattle.rules.specs.declared.table.Sequence.the-variants.{Info, Common, Rule, Key, CertificateAttributes, Authentication, PrivateKeyAttributes, PasswordAttributes, Path}
 use Rattle.rules.specs.Parts.{sized, judged, payload}
-use Rattle.rules.specs.Tables.{rowsOf}
+use Rattle.rules.specs.Tables.{ciaRows, commonRows, ruleRows, keyRows, certificateRows, authenticationRows, privateRows, passwordRows, pathRows}
 use Rattle.rules.specs.FieldLaws.{small-told}
 use Rattle.rules.specs.Grammar.{contentsOf, Fine}
 
--- what a row of text is bounded by; other rows say nothing here
-abbrev bounded : Form → Row → Bool
-bounded form.Text r = eqb (r .low) 0 && eqb (r .high) 255
-bounded form.Boolean r = true
-bounded form.Integer r = true
-bounded form.Bits r = true
-bounded form.Null r = true
-bounded form.Time r = true
-bounded form.Octets r = true
+-- the rows of text, by kind and bounds
+abbrev ofText : Form → Row → List (ℕ × ℕ × ℕ)
+ofText form.Text r = (r .kind, r .low, r .high) ∷ []
+ofText form.Boolean r = []
+ofText form.Integer r = []
+ofText form.Bits r = []
+ofText form.Null r = []
+ofText form.Time r = []
+ofText form.Octets r = []
 
-abbrev texts : List Row → Bool
-texts [] = true
-texts (r ∷ rs) = bounded (r .form) r && texts rs
+abbrev texts : List Row → List (ℕ × ℕ × ℕ)
+texts [] = []
+texts (r ∷ rs) = ofText (r .form) r ++ texts rs
 
--- every row of text has 0 to 255
-pub texts-255 : (q : Sequence) → texts (rowsOf q) ≡ true
-texts-255 Info = refl
-texts-255 Common = refl
-texts-255 Rule = refl
-texts-255 Key = refl
-texts-255 CertificateAttributes = refl
-texts-255 Authentication = refl
-texts-255 PrivateKeyAttributes = refl
-texts-255 PasswordAttributes = refl
-texts-255 Path = refl
+-- "for 0103, 0104 and 0121": these are all the texts of all the tables
+pub texts-255 : texts (ciaRows ++ commonRows ++ ruleRows ++ keyRows ++ certificateRows ++ authenticationRows ++ privateRows ++ passwordRows ++ pathRows) ≡ (0x0103, 0, 255) ∷ (0x0104, 0, 255) ∷ (0x0121, 0, 255) ∷ []
+texts-255 = refl
 
 -- a text is judged by how many characters it has, whatever bytes they take
 pub judged-by-characters : (r : Row) (us : List ℕ) → Scalars us → length us < most → r .form ≡ form.Text → judged r (utf8s us) (value form.Text (utf8s us)) ≡ sized r (utf8s us) false (length us)
