@@ -16,15 +16,16 @@ use Rattle.rules.specs.Parts.{counted}
 use Rattle.rules.specs.Files.{Name, File, framed, files, frames, namedFrame, namesOf, two, fileOf, directories}
 use Rattle.cards.specs.FrameLaws.{Sorted}
 use Rattle.rules.specs.Book.{encode}
-use Rattle.reader.specs.Filing.{DidObjects, fellObjects, byKind}
-use Rattle.reader.specs.Scan.{Lies, Holds, NextName, last, found, NameTold}
+use Rattle.files.specs.Filing.{DidObjects, fellObjects}
+use Rattle.files.specs.Scan.{Lies, Holds, NextName, last, found, NameTold}
 use Rattle.reader.specs.Frame.{framedAs, Path}
+use Rattle.reader.specs.Linear.{byKind}
 use Rattle.reader.specs.Twelve.{Sound}
 use Rattle.reader.specs.Directories.{didFiles, fellFiles, FilesTold}
 use Rattle.objects.specs.DidLaws.{encode-append}
 use Rattle.objects.specs.ComponentsLaws.{also-none, also-also}
-use Rattle.reader.proofs.ObjectsLaws.{objects-open, objects-small, objects-high, objects-few, objects-same, objects-kept}
-use Rattle.reader.proofs.LiesLaws.{lie-same, put-lies}
+use Rattle.files.specs.ObjectsLaws.{objects-open, objects-small, objects-high, objects-few, objects-same, objects-kept}
+use Rattle.files.specs.LiesLaws.{lie-same, put-lies}
 use Rattle.reader.proofs.FrameLaws.{chain-more, chain-end, is-framed}
 use Rattle.reader.proofs.TwelveLaws.{chain-same}
 

@@ -1,12 +1,5 @@
-pub mod FillLaws
-pub mod LiesLaws
-pub mod ScanLaws
-pub mod NameLaws
-pub mod ObjectsLaws
-pub mod HolderLaws
-pub mod LinearLaws
-pub mod EntryLaws
 pub mod FrameLaws
+pub mod LinearLaws
 pub mod TwelveLaws
 pub mod DirectoriesLaws
 pub mod StageLaws

@@ -12,15 +12,16 @@ use Rattle.elements.specs.PutLaws.{put-none, put-put}
 use Rattle.elements.specs.Record.{recordBytes}
 use Rattle.objects.specs.declared.part.Many.{Many}
 use Rattle.objects.specs.declared.part.Many.the-variants as many
-use Rattle.reader.specs.declared.holder.Holder.the-variants as holder
+use Rattle.files.specs.declared.holder.Holder.the-variants as holder
 use Rattle.rules.specs.Reading.{Res, fails}
 use Rattle.rules.specs.Parts.{toEnd}
 use Rattle.rules.specs.Files.{two, recordEnd, directory, recordIn, linear}
 use Rattle.cards.specs.FrameLaws.{Fit, spent, onto, Sorted, transparent, ofRecords}
 use Rattle.cards.specs.RecordLaws.{fit-high, record-closes}
 use Rattle.objects.specs.RepeatLaws.{Going, going-none, going-step, going-stop, going-break}
-use Rattle.reader.specs.Filing.{DidObjects, didObjects, fellObjects, filledUp, recordAt, recordsIn, byKind}
-use Rattle.reader.proofs.ObjectsLaws.{objects-open, objects-small, objects-few, objects-same, objects-kept, objects-front}
+use Rattle.files.specs.Filing.{DidObjects, didObjects, fellObjects, filledUp}
+use Rattle.files.specs.ObjectsLaws.{objects-open, objects-small, objects-few, objects-same, objects-kept, objects-front}
+use Rattle.reader.specs.Linear.{recordAt, recordsIn, byKind}
 
 -- the loop over the records: those before n were read, and those from n on fit
 pub record Records (s : List ℕ) (entry : ℕ) (a b u v : List ℕ) (end at o k j n p : ℕ) : Type 0 where

@@ -16,10 +16,10 @@ use Rattle.objects.specs.declared.part.Part.{Part}
 use Rattle.objects.specs.declared.part.Part.the-variants.{Took, Fails}
 use Rattle.objects.specs.declared.part.Many.{Many}
 use Rattle.objects.specs.declared.part.Many.the-variants as many
-use Rattle.reader.specs.declared.answer.Entries.{Entries}
-use Rattle.reader.specs.declared.answer.Entries.the-variants as list
-use Rattle.reader.specs.declared.scan.Clash.{Clash}
-use Rattle.reader.specs.declared.scan.Clash.the-variants.{At, None}
+use Rattle.files.specs.declared.answer.Entries.{Entries}
+use Rattle.files.specs.declared.answer.Entries.the-variants as list
+use Rattle.files.specs.declared.scan.Clash.{Clash}
+use Rattle.files.specs.declared.scan.Clash.the-variants.{At, None}
 use Rattle.reader.specs.declared.twelve.Followed.{Followed}
 use Rattle.reader.specs.declared.twelve.Followed.the-variants.{Fine, Wrong}
 use Rattle.reader.specs.declared.frame.Framed.{Framed}
@@ -38,16 +38,16 @@ use Rattle.cards.specs.DumpLaws.{dirs-read}
 use Rattle.cards.specs.CardRender.{files-renders}
 use Rattle.rules.specs.BookLaws.{book-size}
 use Rattle.objects.specs.Did.{Did, did, fell}
-use Rattle.reader.specs.Filing.{DidObjects, fellObjects, objectsOf, DidEntries, PathsTold}
-use Rattle.reader.specs.Scan.{Lies, Holds, IdsTold, clashOf}
+use Rattle.files.specs.Filing.{DidObjects, fellObjects, objectsOf, DidEntries, PathsTold}
+use Rattle.files.specs.Scan.{Lies, Holds, IdsTold, clashOf}
 use Rattle.reader.specs.Frame.{framedAs, Inner, FramesTold}
 use Rattle.reader.proofs.FrameLaws.{inner-mid, inner-high}
 use Rattle.reader.specs.Twelve.{FollowTold, followedAs}
 use Rattle.reader.specs.Directories.{DidFiles, didFiles, fellFiles, FilesTold}
 use Rattle.reader.specs.Stages.{Reads, reads, falls, Framing, Opening, Opened, FilesRead, EntriesRead, PartsRead}
 use Rattle.objects.specs.DidLaws.{encode-append, did-same}
-use Rattle.reader.proofs.ObjectsLaws.{objects-open, objects-few, objects-same}
-use Rattle.reader.proofs.LiesLaws.{put-lies, put-lie}
+use Rattle.files.specs.ObjectsLaws.{objects-open, objects-few, objects-same}
+use Rattle.files.specs.LiesLaws.{put-lies, put-lie}
 
 -- records laid out behind others
 lies-behind : (s : List ℕ) {a b : List ℕ} {i end n : ℕ} (cs ds : List Rec) → Lies a i end cs → Put a b end n (encode ds) → n ≤ length a → length s ≤ 32768 → Laid (length s) cs → Laid (length s) ds → Lies b i n (cs ++ ds)

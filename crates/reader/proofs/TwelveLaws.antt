@@ -17,10 +17,10 @@ use Rattle.reader.specs.declared.twelve.Followed.{Followed}
 use Rattle.reader.specs.declared.twelve.Followed.the-variants.{Fine, Wrong}
 use Rattle.rules.specs.Reading.{Rec}
 use Rattle.rules.specs.Files.{File, FrameRead, framed, broken, files, two, frameOf, fileIn, namedFile, namedFrame, frames, Name, namesOf, equal, pathOf, Check, wrongAt, follow}
-use Rattle.reader.specs.Scan.{Lies, Holds, NextName, last, found, NameTold}
+use Rattle.files.specs.Scan.{Lies, Holds, NextName, last, found, NameTold}
 use Rattle.reader.specs.Frame.{framedAs, Inner, Path}
 use Rattle.reader.specs.Twelve.{Sound, followedAs, FollowTold}
-use Rattle.reader.proofs.LiesLaws.{lie-same}
+use Rattle.files.specs.LiesLaws.{lie-same}
 use Rattle.reader.proofs.FrameLaws.{chain-more, chain-end}
 
 -- a file is framed where its record is

@@ -10,7 +10,7 @@ use Rattle.objects.specs.declared.part.Many.the-variants as many
 use Rattle.rules.specs.Reading.{Rec, Res, took, fails}
 use Rattle.rules.specs.Files.{File, files, frames, namesOf, directories}
 use Rattle.rules.specs.Book.{encode}
-use Rattle.reader.specs.Scan.{Lies}
+use Rattle.files.specs.Scan.{Lies}
 
 -- records and places are put as with objects; no place comes next
 pub data DidFiles (a b u v : List ℕ) (o k : ℕ) : Res → Many → Type 0 where

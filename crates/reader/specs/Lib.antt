@@ -1,6 +1,5 @@
-pub mod Filing
-pub mod Scan
 pub mod Frame
+pub mod Linear
 pub mod Twelve
 pub mod Directories
 pub mod Stages

@@ -11,8 +11,8 @@ use Rattle.rules.specs.Reading.{Rec}
 use Rattle.rules.specs.Files.{File, files, frames, Answer, accepted, refused, onRes, od, namesOf, paths, readFiles, readParts}
 use Rattle.rules.specs.Book.{encode}
 use Rattle.rules.specs.LookLaws.{Laid}
-use Rattle.reader.specs.Filing.{PathsTold}
-use Rattle.reader.specs.Scan.{Lies}
+use Rattle.files.specs.Filing.{PathsTold}
+use Rattle.files.specs.Scan.{Lies}
 
 -- the code's answer is the definition's: the records behind those that were laid out before, `old`, are laid out from o on in the lent book, which was a and is b
 pub data Reads (old : List Rec) (a b : List ℕ) (o : ℕ) : Answer → Outcome → Type 0 where

@@ -6,7 +6,7 @@ use Rattle.reader.specs.declared.twelve.Followed.{Followed}
 use Rattle.reader.specs.declared.twelve.Followed.the-variants.{Fine, Wrong}
 use Rattle.rules.specs.Reading.{Rec}
 use Rattle.rules.specs.Files.{File, files, frames, namesOf, Check, fine, wrongAt, follow}
-use Rattle.reader.specs.Scan.{Lies}
+use Rattle.files.specs.Scan.{Lies}
 
 -- the files from `at` on are framed well
 pub record Sound (s : List ℕ) (at : ℕ) : Type 0 where

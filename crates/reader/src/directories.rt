@@ -1,12 +1,12 @@
 use crate::frame::Framed;
 use crate::frame::named_frame;
 use crate::linear::file_of;
-use crate::scan::next_name;
+use files::next_name;
 use objects::Many;
 use rules::word;
 ghost use Prim.Native.Nat.{_*_, _≤_};
 ghost use lib.ListN.{length};
-ghost use Rattle.reader.specs.Scan.{Holds};
+ghost use Rattle.files.specs.Scan.{Holds};
 ghost use Rattle.reader.specs.Twelve.{Sound};
 ghost use Rattle.reader.specs.Directories.{FilesTold};
 

@@ -1,14 +1,8 @@
-// From a dump to its book, file by file as the rules have them.
-mod answer;
+// From a dump to its book: the frames, EF.OD against the files, the files in turn, as the rules have them.
 mod directories;
 mod dump;
-mod entry;
-mod fill;
 mod frame;
-mod holder;
-mod info;
 mod linear;
-mod scan;
 mod twelve;
 
 pub use dump::read_into;

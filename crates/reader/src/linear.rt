@@ -1,14 +1,14 @@
-use crate::holder::Holder;
-use crate::holder::held;
+use files::Holder;
+use files::held;
 use objects::Many;
 use objects::put_bare;
 use rules::word;
 ghost use Prim.Native.Nat.{_+_, _*_, _≤_};
-ghost use lib.ListN.{length};
 ghost use Rattle.rules.specs.Files.{linear};
 ghost use Rattle.objects.specs.Did.{InContainer};
 ghost use Rattle.cards.specs.FrameLaws.{Fit, Sorted};
-ghost use Rattle.reader.specs.Filing.{DidObjects, recordsIn, byKind};
+ghost use Rattle.files.specs.Filing.{DidObjects};
+ghost use Rattle.reader.specs.Linear.{recordsIn, byKind};
 
 // The records of a record file in turn, after k objects.
 fn records(

@@ -1,12 +1,12 @@
 use crate::frame::Framed;
 use crate::frame::named_frame;
-use crate::scan::next_name;
 use elements::Fault;
+use files::next_name;
 use rules::same_bytes;
 use rules::word;
 ghost use Prim.Native.Nat.{_≤_};
 ghost use lib.ListN.{length};
-ghost use Rattle.reader.specs.Scan.{Holds};
+ghost use Rattle.files.specs.Scan.{Holds};
 ghost use Rattle.reader.specs.Twelve.{Sound, FollowTold};
 
 // Whether the files follow EF.OD; or a refusal and its place.

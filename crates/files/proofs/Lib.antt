@@ -1,0 +1,5 @@
+pub mod FillLaws
+pub mod ScanLaws
+pub mod NameLaws
+pub mod HolderLaws
+pub mod EntryLaws

@@ -1,0 +1,4 @@
+pub mod Filing
+pub mod Scan
+pub mod LiesLaws
+pub mod ObjectsLaws
