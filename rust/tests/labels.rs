@@ -1,23 +1,6 @@
-//! Labels in two scripts through the proved library: the sample card, and the bound of 255 characters.
+//! Labels in two scripts through the proved library: the bound of 255 characters.
 
-use adarbukoi::{field, list, read, write, Refusal};
-
-const DUMP: &[u8] = include_bytes!("../../samples/two-scripts.dump");
-
-#[test]
-fn reads_writes_and_lists() {
-    let mut book = [0; 855];
-    assert_eq!(read(DUMP, &mut book), Ok(855));
-    let mut again = [0; 783];
-    assert_eq!(write(&book, &mut again), Ok(783));
-    assert_eq!(again, DUMP);
-    let mut rows = [7; 13];
-    assert_eq!(list(&book, &mut rows), Ok(12));
-    assert_eq!(rows, [1, 0, 216, 2, 3, 0, 221, 1, 1, 2, 697, 3, 7]);
-    let label = std::str::from_utf8(field(&book, 2, 0x0121).unwrap()).unwrap();
-    assert_eq!((label.len(), label.chars().count()), (317, 222));
-    assert!(label.starts_with("Κωδικός PIN ") && label.ends_with(" unblocked with the PUK"));
-}
+use adarbukoi::{read, write, Refusal};
 
 /// CIAInfo with a label, and an empty EF.OD. With a text of 256 bytes or more the label is at 11.
 fn labelled(text: &str) -> Vec<u8> {

@@ -183,18 +183,6 @@ fn fields_and_links() {
     assert_eq!(links(&book).unwrap(), [[1, 0, 1052, 0]]);
 }
 
-/// The sample card: labels in Greek and English, that of the PIN in 222 characters.
-#[test]
-fn sample() {
-    let dump = include_bytes!("../../../samples/two-scripts.dump");
-    assert_eq!(dump.len(), 783);
-    let book = accepted(dump);
-    assert_eq!(book.len(), 855);
-    assert_eq!(links(&book).unwrap(), [[1, 0, 216, 2], [3, 0, 221, 1], [1, 2, 697, 3]]);
-    assert_eq!(field(&book, 2, 0x0121), Ok((372, 317)));
-    assert_eq!(std::str::from_utf8(&book[372..689]).unwrap().chars().count(), 222);
-}
-
 #[test]
 fn books() {
     for character in WIDTHS {

@@ -65,17 +65,6 @@ fn both_kinds_listed() {
     }
 }
 
-/// The sample card: keys in records of 64 bytes, one certificate, a PIN in a record of 48.
-#[test]
-fn sample() {
-    let dump = include_bytes!("../../../samples/record-files.dump");
-    assert_eq!(dump.len(), 426);
-    let book = accepted(dump);
-    assert_eq!(book.len(), 416);
-    let missing = 4_294_967_295;
-    assert_eq!(links(&book).unwrap(), [[1, 0, 97, 3], [3, 0, 110, 2], [1, 1, 196, 3], [3, 1, 201, missing]]);
-}
-
 #[test]
 fn frames() {
     // the path lengths of the third record: lacking, 0, 65, cut off; and other kinds

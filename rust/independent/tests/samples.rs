@@ -1,0 +1,32 @@
+//! Sample cards: lengths, links and a label, worked out by hand.
+
+mod common;
+
+use common::*;
+use independent::{field, links};
+
+const MISSING: u32 = 4_294_967_295;
+
+/// The book of a card, of these lengths and with these links.
+fn book(dump: &[u8], lengths: [usize; 2], rows: &[[u32; 4]]) -> Vec<u8> {
+    let book = accepted(dump);
+    assert_eq!([dump.len(), book.len()], lengths);
+    assert_eq!(links(&book).unwrap(), rows);
+    book
+}
+
+/// Keys in records of 64 bytes, one certificate, a PIN in a record of 48.
+#[test]
+fn record_files() {
+    let rows = [[1, 0, 97, 3], [3, 0, 110, 2], [1, 1, 196, 3], [3, 1, 201, MISSING]];
+    book(include_bytes!("../../../samples/record-files.dump"), [426, 416], &rows);
+}
+
+/// Labels in Greek and English, that of the PIN in 222 characters.
+#[test]
+fn two_scripts() {
+    let rows = [[1, 0, 216, 2], [3, 0, 221, 1], [1, 2, 697, 3]];
+    let book = book(include_bytes!("../../../samples/two-scripts.dump"), [783, 855], &rows);
+    assert_eq!(field(&book, 2, 0x0121), Ok((372, 317)));
+    assert_eq!(std::str::from_utf8(&book[372..689]).unwrap().chars().count(), 222);
+}

@@ -1,0 +1,32 @@
+//! Sample cards through the proved library.
+
+use adarbukoi::{field, list, read, write};
+
+const RECORD_FILES: &[u8] = include_bytes!("../../samples/record-files.dump");
+const TWO_SCRIPTS: &[u8] = include_bytes!("../../samples/two-scripts.dump");
+
+/// The book of a card: so long, written back to the dump, and with these links.
+fn book(dump: &[u8], length: usize, links: &[u32]) -> Vec<u8> {
+    let mut book = vec![0; length];
+    assert_eq!(read(dump, &mut book), Ok(length));
+    let mut again = vec![0; dump.len()];
+    assert_eq!(write(&book, &mut again), Ok(dump.len()));
+    assert_eq!(again, dump);
+    let mut rows = vec![7; links.len() + 1];
+    assert_eq!(list(&book, &mut rows), Ok(links.len()));
+    assert_eq!(rows, [links, &[7]].concat());
+    book
+}
+
+#[test]
+fn record_files() {
+    book(RECORD_FILES, 416, &[1, 0, 97, 3, 3, 0, 110, 2, 1, 1, 196, 3, 3, 1, 201, u32::MAX]);
+}
+
+#[test]
+fn two_scripts() {
+    let book = book(TWO_SCRIPTS, 855, &[1, 0, 216, 2, 3, 0, 221, 1, 1, 2, 697, 3]);
+    let label = std::str::from_utf8(field(&book, 2, 0x0121).unwrap()).unwrap();
+    assert_eq!((label.len(), label.chars().count()), (317, 222));
+    assert!(label.starts_with("Κωδικός PIN ") && label.ends_with(" unblocked with the PUK"));
+}
