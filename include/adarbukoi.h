@@ -40,7 +40,6 @@ enum {
     ADARBUKOI_TAG = 3,      /* bad or cut-off tag form, or not the component due here, or one more than is due */
     ADARBUKOI_LENGTH = 4,   /* bad length form, cut off, or beyond its container */
     ADARBUKOI_MISSING = 5,  /* a container ends early; the place is its end */
-    ADARBUKOI_VALUE = 6,    /* a value is not in its form, or a default is written */
     ADARBUKOI_RANGE = 7,    /* outside a stated bound, lengths included (of a label in characters); the 256th
                                condition of one list */
     ADARBUKOI_RULE = 8,     /* index without length or the reverse; pwdFlags bits 6 and 7 both set */
@@ -52,7 +51,17 @@ enum {
     ADARBUKOI_ROOM = 14,    /* the lent output is too short */
     ADARBUKOI_BOOK = 15,    /* no accepted dump has this book */
     ADARBUKOI_NONE = 16,    /* the object or field is not there */
-    ADARBUKOI_SECOND = 17   /* a record of a record file holds a second object */
+    ADARBUKOI_SECOND = 17,  /* a record of a record file holds a second object */
+
+    /* what is wrong with a value, 61 to 68; of several at one element the first is told */
+    ADARBUKOI_BAD_BOOLEAN = 61,     /* a BOOLEAN is not one byte of 00 or FF */
+    ADARBUKOI_BAD_INTEGER = 62,     /* an INTEGER or ENUMERATED is empty or too long in form */
+    ADARBUKOI_BAD_BITS = 63,        /* a bit string is empty, has a bad unused count or unused bits set */
+    ADARBUKOI_TRAILING_BITS = 64,   /* a bit string keeps trailing zero bits */
+    ADARBUKOI_BAD_TEXT = 65,        /* a text is not well-formed UTF-8 */
+    ADARBUKOI_BAD_TIME = 66,        /* a time is not YYYYMMDDhhmmssZ, or no such day or time is */
+    ADARBUKOI_BAD_NULL = 67,        /* a NULL has contents */
+    ADARBUKOI_DEFAULT_WRITTEN = 68  /* a component that equals its default is written out */
 };
 
 /* Links: the first number of a row of the list. */

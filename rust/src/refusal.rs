@@ -3,7 +3,7 @@
 use std::error::Error;
 use std::fmt;
 
-/// A refusal: its number, 1 to 17, and its place.
+/// A refusal: its number, 1 to 5, 7 to 17 or 61 to 68, and its place.
 ///
 /// The place is an offset into the input, except for number 14, where it is the size needed
 /// (in bytes or, for the list, in numbers).
@@ -45,7 +45,14 @@ fn words(number: u32) -> (&'static str, &'static str) {
         3 => ("tag", "bad or cut-off tag form, or not the component due here, or one more than is due"),
         4 => ("length", "bad length form, cut off, or beyond its container"),
         5 => ("missing", "container ends early"),
-        6 => ("value", "not in its form, or a written default"),
+        61 => ("boolean", "BOOLEAN not one byte of 00 or FF"),
+        62 => ("integer", "INTEGER or ENUMERATED empty or too long in form"),
+        63 => ("bits", "bit string: empty, bad unused count or unused bits set"),
+        64 => ("trailing", "bit string: trailing zero bits kept"),
+        65 => ("text", "text: not well-formed UTF-8"),
+        66 => ("time", "time: not YYYYMMDDhhmmssZ, or no such day or time"),
+        67 => ("null", "NULL with contents"),
+        68 => ("default", "default written out"),
         7 => ("range", "outside a stated bound"),
         8 => ("rule", "index without length or the reverse, or pwdFlags bits 6 and 7 both set"),
         9 => ("depth", "one level too many"),

@@ -1,7 +1,8 @@
 //! Sample cards through the proved library.
 
-use adarbukoi::{field, list, read, write};
+use adarbukoi::{field, list, read, write, Refusal};
 
+const ANNEX_E2: &[u8] = include_bytes!("../../samples/annex-e2.dump");
 const RECORD_FILES: &[u8] = include_bytes!("../../samples/record-files.dump");
 const TWO_SCRIPTS: &[u8] = include_bytes!("../../samples/two-scripts.dump");
 
@@ -29,4 +30,13 @@ fn two_scripts() {
     let label = std::str::from_utf8(field(&book, 2, 0x0121).unwrap()).unwrap();
     assert_eq!((label.len(), label.chars().count()), (317, 222));
     assert!(label.starts_with("Κωδικός PIN ") && label.ends_with(" unblocked with the PUK"));
+}
+
+/// Its flags are 03 02 05 80 at 30; with 07 for 05 native, which is TRUE, is next, at 52.
+#[test]
+fn annex_e2() {
+    let mut dump = ANNEX_E2.to_vec();
+    assert_eq!(read(&dump, &mut [0; 200]), Err(Refusal { number: 64, place: 30 }));
+    dump[32] = 0x07;
+    assert_eq!(read(&dump, &mut [0; 200]), Err(Refusal { number: 68, place: 52 }));
 }

@@ -1,4 +1,4 @@
--- The P cases of document 01: one table, one statement.
+-- The P cases of document 01, with the numbers that document 02 gives: one table, one statement.
 use Prim.Native.Nat.{ℕ}
 use mathlib.Core.Path.{_≡_, refl}
 use mathlib.Core.List.{List, [], _∷_, map}
@@ -73,21 +73,21 @@ table =
     case (P 1) (elementRead Bits 0x03 (0x03 ∷ 0x02 ∷ 0x07 ∷ 0x80 ∷ [])) (is 1 4) ∷
     case (P 2) (elementRead Bits 0x03 (0x03 ∷ 0x03 ∷ 0x06 ∷ 0x20 ∷ 0x40 ∷ [])) (is 516 5) ∷
     case (P 3) (elementRead Bits 0x03 (0x03 ∷ 0x02 ∷ 0x03 ∷ 0x98 ∷ [])) (is 25 4) ∷
-    case (P 4) (elementRead Bits 0x03 (0x03 ∷ 0x02 ∷ 0x05 ∷ 0x80 ∷ [])) (refused 6 0) ∷
+    case (P 4) (elementRead Bits 0x03 (0x03 ∷ 0x02 ∷ 0x05 ∷ 0x80 ∷ [])) (refused 64 0) ∷
     case (P 5) (elementRead Integer 0x02 (0x02 ∷ 0x02 ∷ 0x00 ∷ 0xff ∷ [])) (is 255 4) ∷
     case (P 6) (elementRead Integer 0x02 (0x02 ∷ 0x01 ∷ 0x00 ∷ 0xff ∷ [])) (is 0 3) ∷
-    case (P 7) (elementRead Integer 0x02 (0x02 ∷ 0x02 ∷ 0x00 ∷ 0x7f ∷ [])) (refused 6 0) ∷
+    case (P 7) (elementRead Integer 0x02 (0x02 ∷ 0x02 ∷ 0x00 ∷ 0x7f ∷ [])) (refused 62 0) ∷
     case (P 8) (shown (answered (readsCondition (0xa1 ∷ 0x02 ∷ 0x05 ∷ 0x00 ∷ [])))) (refused 5 4) ∷
     case (P 9) (shown (reading [])) (refused 2 0) ∷
     -- 20000229000000Z holds, 19000229000000Z does not
     case (P 10) (elementRead Time 0x18 (0x18 ∷ 0x0f ∷ 50 ∷ 48 ∷ 48 ∷ 48 ∷ 48 ∷ 50 ∷ 50 ∷ 57 ∷ 48 ∷ 48 ∷ 48 ∷ 48 ∷ 48 ∷ 48 ∷ 90 ∷ [])) (is 0 17) ∷
-    case (P 10) (elementRead Time 0x18 (0x18 ∷ 0x0f ∷ 49 ∷ 57 ∷ 48 ∷ 48 ∷ 48 ∷ 50 ∷ 50 ∷ 57 ∷ 48 ∷ 48 ∷ 48 ∷ 48 ∷ 48 ∷ 48 ∷ 90 ∷ [])) (refused 6 0) ∷
+    case (P 10) (elementRead Time 0x18 (0x18 ∷ 0x0f ∷ 49 ∷ 57 ∷ 48 ∷ 48 ∷ 48 ∷ 50 ∷ 50 ∷ 57 ∷ 48 ∷ 48 ∷ 48 ∷ 48 ∷ 48 ∷ 48 ∷ 90 ∷ [])) (refused 66 0) ∷
     case Shared (shown (reading shared)) (accepted 126) ∷
     -- "auth 0 42 1", "cert 0 47 -", "auth 1 84 -"
     case Shared (linked (reading shared)) (rows (1 ∷ 0 ∷ 42 ∷ 1 ∷ 3 ∷ 0 ∷ 47 ∷ 4294967295 ∷ 1 ∷ 1 ∷ 84 ∷ 4294967295 ∷ [])) ∷
     []
 
--- every case is answered as document 01 says
+-- every case is answered so
 pub all-hold : map (λ c. c .got) table ≡ map (λ c. c .want) table
 unfolding table elementRead answered linked
 all-hold = refl

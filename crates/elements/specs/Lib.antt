@@ -2,6 +2,7 @@ pub mod Lists
 pub mod Choice
 pub mod ChoiceLaws
 pub mod Faults
+pub mod Refines
 pub mod Header
 pub mod Loop
 pub mod LoopLaws
@@ -30,3 +31,5 @@ pub mod TextLaws
 pub mod CharacterLaws
 pub mod TimeLaws
 pub mod ValueLaws
+pub mod WrongLaws
+pub mod BitsFaults

@@ -23,14 +23,21 @@ pub enum Fault {
     LongLength,
     // 5: the container ends early
     Missing,
-    // 6: a value that is not in its form, or a written default
+    // 61: a BOOLEAN that is not one byte of 00 or FF
     BadBoolean,
+    // 62: an INTEGER or ENUMERATED that is empty or too long in form
     BadInteger,
+    // 63: a bit string that is empty, has a bad unused count or unused bits set
     BadBits,
+    // 64: a bit string whose trailing zero bits are kept
     TrailingBits,
+    // 65: a text that is not well formed
     BadText,
+    // 66: a time that is none
     BadTime,
+    // 67: a NULL with contents
     BadNull,
+    // 68: a default that is written out
     DefaultWritten,
     // 7: a value outside its bound, a length outside its bound, a bit string over 32 bits, the 256th condition of one list
     OutOfRange,
@@ -83,14 +90,14 @@ pub fn number_of(f: Fault) -> u32
         Fault::CutLength => 4,
         Fault::LongLength => 4,
         Fault::Missing => 5,
-        Fault::BadBoolean => 6,
-        Fault::BadInteger => 6,
-        Fault::BadBits => 6,
-        Fault::TrailingBits => 6,
-        Fault::BadText => 6,
-        Fault::BadTime => 6,
-        Fault::BadNull => 6,
-        Fault::DefaultWritten => 6,
+        Fault::BadBoolean => 61,
+        Fault::BadInteger => 62,
+        Fault::BadBits => 63,
+        Fault::TrailingBits => 64,
+        Fault::BadText => 65,
+        Fault::BadTime => 66,
+        Fault::BadNull => 67,
+        Fault::DefaultWritten => 68,
         Fault::OutOfRange => 7,
         Fault::BadSize => 7,
         Fault::ManyBits => 7,

@@ -6,31 +6,20 @@ use mathlib.Core.Path.{_≡_, subst}
 use lib.ListN.{length, getD}
 use lib.Dec.{ltb, leb, T}
 use Rattle.elements.specs.declared.fault.Fault.{Fault}
-use Rattle.elements.specs.declared.fault.Fault.the-variants.{BadText}
 use Rattle.elements.specs.declared.answer.Form.{Form}
-use Rattle.elements.specs.declared.answer.Form.the-variants as form
 use Rattle.elements.specs.declared.answer.Head.{Head}
 use Rattle.elements.specs.declared.answer.Head.the-variants.{At, No}
 use Rattle.elements.specs.declared.answer.Run.{Run}
 use Rattle.elements.specs.declared.answer.Run.the-variants.{Ends, Refused}
-use Rattle.elements.specs.declared.answer.Value.{Value}
-use Rattle.elements.specs.declared.answer.Value.the-variants.{Of, Wrong}
-use Rattle.elements.specs.declared.text.Due.{Due}
-use Rattle.elements.specs.declared.text.Next.{Next}
-use Rattle.elements.specs.declared.text.Next.the-variants.{Then, Never}
+use Rattle.elements.specs.declared.answer.Value.the-variants.{Wrong}
 use Rattle.elements.specs.Faults.{numberOf}
 use Rattle.elements.specs.Choice.{pick}
 use Rattle.elements.specs.ChoiceLaws.{by-pick, by-choose}
 use Rattle.elements.specs.Header.{fitted, long1, long2Of, long2, lengthAt, further, highTag, header}
 use Rattle.elements.specs.Loop.{Turn, next, done, loop}
 use Rattle.elements.specs.Sealed.{among, constructed, onward, sealedOne, sealedRun}
-use Rattle.elements.specs.Told.{told}
-use Rattle.elements.specs.Boolean.{boolean}
-use Rattle.elements.specs.Integer.{magnitude, whole, integer}
-use Rattle.elements.specs.Bits.{bitsOf, bits}
-use Rattle.elements.specs.Text.{stepOf, starts, textFrom, text}
-use Rattle.elements.specs.Time.{time}
-use Rattle.elements.specs.Values.{null, value}
+use Rattle.elements.specs.Values.{value}
+use Rattle.elements.specs.WrongLaws.{Faulty, own-fault, boolean-61, integer-62, bits-63, bits-64, bits-7, text-65, time-66, null-67}
 
 -- a fault of reading: its number is none of the services' own, 14, 15 and 16
 abbrev pub ofReading : Fault → Bool
@@ -68,39 +57,19 @@ header-fault s at end {f} {p} e = go (subst HeadTold e (header-told s at end))
     go : HeadTold (No f p) → T (ofReading f)
     go (no-head t) = t
 
--- what contents come to
-data ValueTold : Value → Type 0 where
-  of : {n : Bool} {m : ℕ} → ValueTold (Of n m)
-  no-value : {f : Fault} → T (ofReading f) → ValueTold (Wrong f)
-
-value-by : (t : Bool) {x y : Value} → ValueTold x → ValueTold y → ValueTold (pick t x y)
-value-by t f g = by-pick ValueTold t (λ _. f) (λ _. g)
-
-text-told : (d : Due) (n : ℕ) (c : List ℕ) → ValueTold (textFrom d n c)
-unfolding textFrom told
-text-told d n [] = search (value-by, of, no-value, tt)
-text-told d n (b ∷ l) = go (λ t. text-told t (n + starts d) l) (stepOf d b)
-  where
-    go : ((t : Due) → ValueTold (textFrom t (n + starts d) l)) → (x : Next) → ValueTold (elim x [ Then t ↦ textFrom t (n + starts d) l | Never ↦ Wrong BadText ])
-    go h (Then t) = h t
-    go h Never = no-value tt
-
-value-told : (f : Form) (c : List ℕ) → ValueTold (value f c)
-unfolding value boolean integer whole magnitude bits bitsOf null text time told
-value-told form.Boolean c = search (value-by, of, no-value, tt) depth 12
-value-told form.Integer c = search (value-by, of, no-value, tt) depth 12
-value-told form.Bits c = search (value-by, of, no-value, tt) depth 12
-value-told form.Null c = search (value-by, of, no-value, tt) depth 12
-value-told form.Text c = text-told _ 0 c
-value-told form.Time c = search (value-by, of, no-value, tt) depth 12
-value-told form.Octets c = of
-
 -- and so are contents
 pub value-fault : (f : Form) (c : List ℕ) {x : Fault} → value f c ≡ Wrong x → T (ofReading x)
-value-fault f c {x} e = go (subst ValueTold e (value-told f c))
+value-fault f c e = go (own-fault f c e)
   where
-    go : ValueTold (Wrong x) → T (ofReading x)
-    go (no-value t) = t
+    go : {g : Form} {x : Fault} → Faulty g x → T (ofReading x)
+    go boolean-61 = tt
+    go integer-62 = tt
+    go bits-63 = tt
+    go bits-64 = tt
+    go bits-7 = tt
+    go text-65 = tt
+    go time-66 = tt
+    go null-67 = tt
 
 -- what a sealed run comes to, turn by turn
 data RunTold : Run → Type 0 where

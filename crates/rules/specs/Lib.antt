@@ -7,6 +7,7 @@ pub mod Rulings
 pub mod Grammar
 pub mod ElementLaws
 pub mod FaultLaws
+pub mod Defaults
 pub mod TestLaws
 pub mod ValueLaws
 pub mod LookLaws

@@ -71,11 +71,11 @@ table =
     -- a manufacturerID of 256 characters
     lacks ciaRows 7 3 (part 0x02 (0x00 ∷ []) ∷ part 0x0c (replicate 256 0x41) ∷ []) ∷
     -- a manufacturerID that is no text
-    lacks ciaRows 6 3 (part 0x02 (0x00 ∷ []) ∷ part 0x0c (0xff ∷ []) ∷ []) ∷
+    lacks ciaRows 65 3 (part 0x02 (0x00 ∷ []) ∷ part 0x0c (0xff ∷ []) ∷ []) ∷
     -- a label of 256 characters
     lacks ciaRows 7 3 (part 0x02 (0x00 ∷ []) ∷ part 0x80 (replicate 256 0x41) ∷ []) ∷
     -- a label that is no text
-    lacks ciaRows 6 3 (part 0x02 (0x00 ∷ []) ∷ part 0x80 (0xff ∷ []) ∷ []) ∷
+    lacks ciaRows 65 3 (part 0x02 (0x00 ∷ []) ∷ part 0x80 (0xff ∷ []) ∷ []) ∷
     -- no cardflags
     lacks ciaRows 5 3 (part 0x02 (0x00 ∷ []) ∷ []) ∷
     -- CommonObjectAttributes: upper bounds
@@ -91,11 +91,11 @@ table =
     lacks commonRows 7 0 (part 0x0c (replicate 256 0x41) ∷ []) ∷
     lacks commonRows 7 0 (part 0x0c (copies 256 alpha) ∷ []) ∷
     lacks commonRows 7 0 (part 0x0c (copies 256 clef) ∷ []) ∷
-    -- a label of 255 characters, and of 256, and one byte of the next: "after 6"
-    lacks commonRows 6 0 (part 0x0c (copies 255 alpha ++ (0xce ∷ [])) ∷ []) ∷
-    lacks commonRows 6 0 (part 0x0c (copies 256 alpha ++ (0xce ∷ [])) ∷ []) ∷
+    -- a label of 255 characters, and of 256, and one byte of the next: 65 comes before 7
+    lacks commonRows 65 0 (part 0x0c (copies 255 alpha ++ (0xce ∷ [])) ∷ []) ∷
+    lacks commonRows 65 0 (part 0x0c (copies 256 alpha ++ (0xce ∷ [])) ∷ []) ∷
     -- a label that is no text
-    lacks commonRows 6 0 (part 0x0c (0xff ∷ []) ∷ []) ∷
+    lacks commonRows 65 0 (part 0x0c (0xff ∷ []) ∷ []) ∷
     -- an authId of 256 bytes
     lacks commonRows 7 0 (part 0x04 (replicate 256 0xff) ∷ []) ∷
     -- userConsent 32,768
@@ -121,13 +121,13 @@ table =
     -- no usage
     lacks keyRows 5 2 (part 0x04 [] ∷ []) ∷
     -- native written though TRUE
-    lacks keyRows 6 5 (part 0x04 [] ∷ part 0x03 (0x00 ∷ []) ∷ part 0x01 (0xff ∷ []) ∷ []) ∷
+    lacks keyRows 68 5 (part 0x04 [] ∷ part 0x03 (0x00 ∷ []) ∷ part 0x01 (0xff ∷ []) ∷ []) ∷
     -- keyReference 256
     lacks keyRows 7 5 (part 0x04 [] ∷ part 0x03 (0x00 ∷ []) ∷ part 0x02 (0x01 ∷ 0x00 ∷ []) ∷ []) ∷
     -- a startDate that is no time
-    lacks keyRows 6 5 (part 0x04 [] ∷ part 0x03 (0x00 ∷ []) ∷ part 0x18 [] ∷ []) ∷
+    lacks keyRows 66 5 (part 0x04 [] ∷ part 0x03 (0x00 ∷ []) ∷ part 0x18 [] ∷ []) ∷
     -- an endDate that is no time
-    lacks keyRows 6 5 (part 0x04 [] ∷ part 0x03 (0x00 ∷ []) ∷ part 0x80 [] ∷ []) ∷
+    lacks keyRows 66 5 (part 0x04 [] ∷ part 0x03 (0x00 ∷ []) ∷ part 0x80 [] ∷ []) ∷
     -- CommonCertificateAttributes: upper bounds
     has certificateRows (part 0x04 (replicate 255 0xff) ∷ part 0x01 (0xff ∷ []) ∷ []) (rec 0x0140 (replicate 255 0xff) ∷ rec 0x0141 (0x01 ∷ []) ∷ []) ∷
     -- CommonCertificateAttributes: what is required
@@ -137,7 +137,7 @@ table =
     -- no iD
     lacks certificateRows 5 0 [] ∷
     -- authority written though FALSE
-    lacks certificateRows 6 2 (part 0x04 [] ∷ part 0x01 (0x00 ∷ []) ∷ []) ∷
+    lacks certificateRows 68 2 (part 0x04 [] ∷ part 0x01 (0x00 ∷ []) ∷ []) ∷
     -- CommonAuthenticationObjectAttributes: upper bounds
     has authenticationRows (part 0x04 (replicate 255 0xff) ∷ part 0x02 (0x00 ∷ 0xff ∷ []) ∷ part 0x80 (0x00 ∷ 0xff ∷ []) ∷ []) (rec 0x0150 (replicate 255 0xff) ∷ rec 0x0151 (le32 255) ∷ rec 0x0152 (le32 255) ∷ []) ∷
     -- CommonAuthenticationObjectAttributes: lower bounds
@@ -193,13 +193,13 @@ table =
     -- pwdReference 256
     lacks passwordRows 7 12 (part 0x03 (0x00 ∷ []) ∷ part 0x0a (0x00 ∷ []) ∷ part 0x02 (0x04 ∷ []) ∷ part 0x02 (0x00 ∷ []) ∷ part 0x80 (0x01 ∷ 0x00 ∷ []) ∷ []) ∷
     -- pwdReference written though 0
-    lacks passwordRows 6 12 (part 0x03 (0x00 ∷ []) ∷ part 0x0a (0x00 ∷ []) ∷ part 0x02 (0x04 ∷ []) ∷ part 0x02 (0x00 ∷ []) ∷ part 0x80 (0x00 ∷ []) ∷ []) ∷
+    lacks passwordRows 68 12 (part 0x03 (0x00 ∷ []) ∷ part 0x0a (0x00 ∷ []) ∷ part 0x02 (0x04 ∷ []) ∷ part 0x02 (0x00 ∷ []) ∷ part 0x80 (0x00 ∷ []) ∷ []) ∷
     -- a padChar of no byte
     lacks passwordRows 7 12 (part 0x03 (0x00 ∷ []) ∷ part 0x0a (0x00 ∷ []) ∷ part 0x02 (0x04 ∷ []) ∷ part 0x02 (0x00 ∷ []) ∷ part 0x04 [] ∷ []) ∷
     -- a padChar of two bytes
     lacks passwordRows 7 12 (part 0x03 (0x00 ∷ []) ∷ part 0x0a (0x00 ∷ []) ∷ part 0x02 (0x04 ∷ []) ∷ part 0x02 (0x00 ∷ []) ∷ part 0x04 (0xff ∷ 0xff ∷ []) ∷ []) ∷
     -- a lastPasswordChange that is no time
-    lacks passwordRows 6 12 (part 0x03 (0x00 ∷ []) ∷ part 0x0a (0x00 ∷ []) ∷ part 0x02 (0x04 ∷ []) ∷ part 0x02 (0x00 ∷ []) ∷ part 0x18 [] ∷ []) ∷
+    lacks passwordRows 66 12 (part 0x03 (0x00 ∷ []) ∷ part 0x0a (0x00 ∷ []) ∷ part 0x02 (0x04 ∷ []) ∷ part 0x02 (0x00 ∷ []) ∷ part 0x18 [] ∷ []) ∷
     -- Path: upper bounds
     has pathRows (part 0x04 (replicate 64 0xff) ∷ part 0x02 (0x00 ∷ 0xff ∷ 0xff ∷ []) ∷ part 0x80 (0x00 ∷ 0xff ∷ 0xff ∷ []) ∷ []) (rec 0x0180 (replicate 64 0xff) ∷ rec 0x0181 (le32 65535) ∷ rec 0x0182 (le32 65535) ∷ []) ∷
     -- Path: lower bounds
@@ -216,6 +216,31 @@ table =
     lacks pathRows 7 2 (part 0x04 [] ∷ part 0x02 (0x01 ∷ 0x00 ∷ 0x00 ∷ []) ∷ []) ∷
     -- length 65,536
     lacks pathRows 7 2 (part 0x04 [] ∷ part 0x80 (0x01 ∷ 0x00 ∷ 0x00 ∷ []) ∷ []) ∷
+    -- 61: a native of no byte, of 01; in a bad form though TRUE; an authority in one though FALSE
+    lacks keyRows 61 5 (part 0x04 [] ∷ part 0x03 (0x00 ∷ []) ∷ part 0x01 [] ∷ []) ∷
+    lacks keyRows 61 5 (part 0x04 [] ∷ part 0x03 (0x00 ∷ []) ∷ part 0x01 (0x01 ∷ []) ∷ []) ∷
+    lacks keyRows 61 5 (part 0x04 [] ∷ part 0x03 (0x00 ∷ []) ∷ part 0x01 (0xff ∷ 0xff ∷ []) ∷ []) ∷
+    lacks certificateRows 61 2 (part 0x04 [] ∷ part 0x01 (0x00 ∷ 0x00 ∷ []) ∷ []) ∷
+    -- 62: a version of no byte, one too long; a pwdType, ENUMERATED, too long; minus 1 too long, before 7; a pwdReference in a bad form though 0
+    lacks ciaRows 62 0 (part 0x02 [] ∷ []) ∷
+    lacks ciaRows 62 0 (part 0x02 (0x00 ∷ 0x7f ∷ []) ∷ []) ∷
+    lacks passwordRows 62 3 (part 0x03 (0x00 ∷ []) ∷ part 0x0a (0x00 ∷ 0x01 ∷ []) ∷ []) ∷
+    lacks keyRows 62 5 (part 0x04 [] ∷ part 0x03 (0x00 ∷ []) ∷ part 0x02 (0xff ∷ 0xff ∷ []) ∷ []) ∷
+    lacks passwordRows 62 12 (part 0x03 (0x00 ∷ []) ∷ part 0x0a (0x00 ∷ []) ∷ part 0x02 (0x04 ∷ []) ∷ part 0x02 (0x00 ∷ []) ∷ part 0x80 (0x00 ∷ 0x00 ∷ []) ∷ []) ∷
+    -- 63: cardflags of no byte; with 8 unused bits, with and without bytes; with a count and no bytes; with an unused bit set
+    lacks ciaRows 63 3 (part 0x02 (0x00 ∷ []) ∷ part 0x03 [] ∷ []) ∷
+    lacks ciaRows 63 3 (part 0x02 (0x00 ∷ []) ∷ part 0x03 (0x08 ∷ 0x80 ∷ []) ∷ []) ∷
+    lacks ciaRows 63 3 (part 0x02 (0x00 ∷ []) ∷ part 0x03 (0x08 ∷ []) ∷ []) ∷
+    lacks ciaRows 63 3 (part 0x02 (0x00 ∷ []) ∷ part 0x03 (0x01 ∷ []) ∷ []) ∷
+    lacks ciaRows 63 3 (part 0x02 (0x00 ∷ []) ∷ part 0x03 (0x07 ∷ 0x81 ∷ []) ∷ []) ∷
+    -- 63 before 64: an unused bit set, and the bit before them zero; 63 and 64 before 7: 33 bits and an unused one set, 40 bits and the last of them zero; 33 bits in good form
+    lacks ciaRows 63 3 (part 0x02 (0x00 ∷ []) ∷ part 0x03 (0x04 ∷ 0x08 ∷ []) ∷ []) ∷
+    lacks ciaRows 63 3 (part 0x02 (0x00 ∷ []) ∷ part 0x03 (0x07 ∷ 0xff ∷ 0xff ∷ 0xff ∷ 0xff ∷ 0x81 ∷ []) ∷ []) ∷
+    lacks ciaRows 64 3 (part 0x02 (0x00 ∷ []) ∷ part 0x03 (0x00 ∷ 0xff ∷ 0xff ∷ 0xff ∷ 0xff ∷ 0x00 ∷ []) ∷ []) ∷
+    lacks ciaRows 7 3 (part 0x02 (0x00 ∷ []) ∷ part 0x03 (0x07 ∷ 0xff ∷ 0xff ∷ 0xff ∷ 0xff ∷ 0x80 ∷ []) ∷ []) ∷
+    -- 64: usage with trailing zero bits, in the last byte in use and in a byte of them alone
+    lacks keyRows 64 2 (part 0x04 [] ∷ part 0x03 (0x05 ∷ 0x80 ∷ []) ∷ []) ∷
+    lacks keyRows 64 2 (part 0x04 [] ∷ part 0x03 (0x00 ∷ 0x80 ∷ 0x00 ∷ []) ∷ []) ∷
     []
 
 -- each is answered so

@@ -1,9 +1,11 @@
 //! How often each answer was seen.
 
-/// Accepted, then each refusal number, for each service.
+use std::collections::BTreeMap;
+
+/// How often each number was seen, 0 being accepted, for each service.
 #[derive(Default)]
 pub struct Counts {
-    services: [[u64; 18]; 4],
+    services: [BTreeMap<u32, u64>; 4],
 }
 
 #[derive(Clone, Copy)]
@@ -23,14 +25,14 @@ impl Service {
 impl Counts {
     /// Counts one answer: 0 for accepted, or the refusal's number.
     pub fn add(&mut self, service: Service, number: u32) {
-        self.services[service as usize][number as usize] += 1;
+        *self.services[service as usize].entry(number).or_default() += 1;
     }
 
     pub fn print(&self) {
         for service in [Service::Read, Service::Write, Service::List, Service::Field] {
             let seen = &self.services[service as usize];
-            print!("{:<6} accepted {}", service.name(), seen[0]);
-            for (number, count) in seen.iter().enumerate().skip(1).filter(|(_, count)| **count > 0) {
+            print!("{:<6} accepted {}", service.name(), seen.get(&0).unwrap_or(&0));
+            for (number, count) in seen.range(1..) {
                 print!(", {number}: {count}");
             }
             println!();

@@ -14,8 +14,22 @@ pub const TAG: u32 = 3;
 pub const LENGTH: u32 = 4;
 /// container ends early
 pub const MISSING: u32 = 5;
-/// not in the form above, or a written default
-pub const VALUE: u32 = 6;
+/// BOOLEAN not one byte of 00 or FF
+pub const BOOLEAN: u32 = 61;
+/// INTEGER or ENUMERATED empty or too long in form
+pub const INTEGER: u32 = 62;
+/// bit string: empty, bad unused count or unused bits set
+pub const BITS: u32 = 63;
+/// bit string: trailing zero bits kept
+pub const TRAILING: u32 = 64;
+/// text: not well-formed UTF-8
+pub const TEXT: u32 = 65;
+/// time: not YYYYMMDDhhmmssZ, or no such day or time
+pub const TIME: u32 = 66;
+/// NULL with contents
+pub const NULL: u32 = 67;
+/// default written out
+pub const DEFAULT: u32 = 68;
 /// outside a stated bound
 pub const RANGE: u32 = 7;
 /// index without length or the reverse; pwdFlags bits 6 and 7 both set

@@ -4,6 +4,7 @@
 use independent::book::{records, Record};
 use independent::generate::{card, damaged_book, dump, Rng};
 use independent::{read, write};
+use std::collections::BTreeMap;
 
 #[test]
 fn whole_cards_are_accepted() {
@@ -16,23 +17,53 @@ fn whole_cards_are_accepted() {
 
 #[test]
 fn each_refusal_is_seen() {
-    let mut seen = [0; 18];
+    let mut seen: BTreeMap<u32, usize> = BTreeMap::new();
     for index in 0..4000 {
         let mut rng = Rng::of_input(2, index);
         match read(&dump(&mut rng)) {
-            Err((number, _)) => seen[number as usize] += 1,
+            Err((number, _)) => *seen.entry(number).or_default() += 1,
             Ok(book) => {
-                seen[0] += 1;
+                *seen.entry(0).or_default() += 1;
                 let damaged = damaged_book(&mut rng, &book);
                 if write(&damaged).is_err() {
-                    seen[15] += 1;
+                    *seen.entry(15).or_default() += 1;
                 }
             }
         }
     }
     println!("{seen:?}");
-    for number in (0..=13).chain([15, 17]) {
-        assert!(seen[number] >= 3, "{number} was seen {} times: {seen:?}", seen[number]);
+    let due: Vec<u32> = (0..=5).chain(7..=13).chain([15, 17]).chain(61..=68).collect();
+    assert!(seen.keys().eq(&due), "{seen:?}");
+    assert!(seen.values().all(|count| *count >= 3), "{seen:?}");
+}
+
+/// The refusals 61 to 68, each with the tags of the components that can be wrong in that way.
+const FAULTS: [(u32, &[u8]); 8] = [
+    (61, &[0x01]),
+    (62, &[0x02, 0x0A, 0x80]),
+    (63, &[0x03]),
+    (64, &[0x03]),
+    (65, &[0x0C, 0x80]),
+    (66, &[0x18, 0x80]),
+    (67, &[0x05]),
+    (68, &[0x01, 0x80]),
+];
+
+#[test]
+fn each_fault_of_a_value_is_seen() {
+    let mut seen: BTreeMap<(u32, u8), usize> = BTreeMap::new();
+    for index in 0..12_000 {
+        let dump = dump(&mut Rng::of_input(5, index));
+        if let Err((number @ (6 | 61..), place)) = read(&dump) {
+            *seen.entry((number, dump[place])).or_default() += 1;
+        }
+    }
+    println!("{seen:?}");
+    let due = FAULTS.iter().flat_map(|(number, tags)| tags.iter().map(move |tag| (*number, *tag)));
+    assert!(seen.keys().copied().eq(due), "{seen:?}");
+    for (number, _) in FAULTS {
+        let count: usize = seen.iter().filter(|(fault, _)| fault.0 == number).map(|(_, count)| count).sum();
+        assert!(count >= 40, "{number} was seen {count} times: {seen:?}");
     }
 }
 

@@ -111,16 +111,16 @@ fn form_before_bound() {
             let good = character.repeat(count).into_bytes();
             // a byte that continues nothing; characters cut off, of each width; one that is overlong; a surrogate
             for bad in ["80", "CE", "E2", "E282", "F0", "F09F", "F09F94", "C080", "EDA080"] {
-                all_refused(&[good.clone(), hex(bad)].concat(), 6);
-                all_refused(&[hex(bad), good.clone()].concat(), 6);
-                all_refused(&[good.clone(), hex(bad), good.clone()].concat(), 6);
+                all_refused(&[good.clone(), hex(bad)].concat(), 65);
+                all_refused(&[hex(bad), good.clone()].concat(), 65);
+                all_refused(&[good.clone(), hex(bad), good.clone()].concat(), 65);
             }
         }
         // the last of 255, then of 256, lacks its last byte
         for count in [255, 256].into_iter().filter(|_| character.len() > 1) {
             let mut cut = character.repeat(count).into_bytes();
             cut.pop();
-            all_refused(&cut, 6);
+            all_refused(&cut, 65);
         }
     }
 }

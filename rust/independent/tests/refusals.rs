@@ -125,19 +125,22 @@ fn values() {
     let common = |component: &str| inline(0xA7, &[with_common(&[hex(component)])]);
     // text that is no UTF-8: lone lead byte, surrogate, overlong, too large
     for bad in ["0C01C3", "0C03EDA080", "0C02C080", "0C04F4908080", "0C01FF"] {
-        refused(&common(bad), 6, 24);
+        refused(&common(bad), 65, 24);
     }
     accepted(&common("0C04F48FBFBF"));
-    // bit strings: empty, 8 unused, unused bits set, trailing zero bit, unused without bits
-    for bad in ["0300", "0302 0880", "0302 0781", "0302 0680", "0301 01", "0302 0000"] {
-        refused(&common(bad), 6, 24);
+    // bit strings: empty, 8 unused, unused bits set, unused without bits; trailing zero bits
+    for bad in ["0300", "0302 0880", "0302 0781", "0301 01"] {
+        refused(&common(bad), 63, 24);
+    }
+    for bad in ["0302 0680", "0302 0000"] {
+        refused(&common(bad), 64, 24);
     }
     // integers: empty, not shortest, both ways
     for bad in ["0200", "02020001", "0202FF80"] {
-        refused(&common(bad), 6, 24);
+        refused(&common(bad), 62, 24);
     }
     // a NULL with contents
-    refused(&inline(0xA7, &[with_condition(&hex("050100"))]), 6, 31);
+    refused(&inline(0xA7, &[with_condition(&hex("050100"))]), 67, 31);
 }
 
 #[test]
@@ -148,8 +151,9 @@ fn defaults_and_times() {
         inline(0xA1, &[tlv(0x30, &[hex("3000"), class, hex("A1020500")])])
     };
     accepted(&key("010100"));
-    for bad in ["0101FF", "010101", "0100", "01020000"] {
-        refused(&key(bad), 6, 31);
+    refused(&key("0101FF"), 68, 31);
+    for bad in ["010101", "0100", "01020000"] {
+        refused(&key(bad), 61, 31);
     }
     let time = |tag: u8, text: &str| {
         let class = tlv(0x30, &[hex("0400 030100"), tlv(tag, &[text.as_bytes().to_vec()])]);
@@ -172,8 +176,8 @@ fn defaults_and_times() {
         "2023010100000:Z",
         "20230101000000ZZ",
     ] {
-        refused(&time(0x18, bad), 6, 31);
-        refused(&time(0x80, bad), 6, 31);
+        refused(&time(0x18, bad), 66, 31);
+        refused(&time(0x80, bad), 66, 31);
     }
     // a certificate's authority: FALSE is its default
     let certificate = |component: &str| {
@@ -181,7 +185,7 @@ fn defaults_and_times() {
         inline(0xA5, &[tlv(0xA0, &[hex("3000"), class, hex("A1020500")])])
     };
     accepted(&certificate("0101FF"));
-    refused(&certificate("010100"), 6, 28);
+    refused(&certificate("010100"), 68, 28);
 }
 
 #[test]
@@ -196,14 +200,14 @@ fn ranges() {
     // 33 bits are too many, if the form is right
     accepted(&common(hex("030500FFFFFFFF")));
     refused(&common(hex("030607FFFFFFFF80")), 7, 24);
-    refused(&common(hex("030607FFFFFFFF40")), 6, 24);
+    refused(&common(hex("030607FFFFFFFF40")), 63, 24);
     // 256 bytes or characters: the object's and the common's headers grow by two each, as do entry and list
     let long = |tag: u8, byte: u8, count: usize| common(tlv(tag, &[vec![byte; count]]));
     accepted(&long(0x04, 0, 255));
     refused(&long(0x04, 0, 256), 7, 32);
     accepted(&long(0x0C, 0x41, 255));
     refused(&long(0x0C, 0x41, 256), 7, 32);
-    refused(&long(0x0C, 0xC1, 256), 6, 32);
+    refused(&long(0x0C, 0xC1, 256), 65, 32);
     // EF.OD's path: 0 and 65 bytes
     refused(&with_od(&hex("A70430020400")), 7, 20);
     refused(&with_od(&tlv(0xA7, &[tlv(0x30, &[tlv(0x04, &[vec![1; 65]])])])), 7, 20);
@@ -220,7 +224,7 @@ fn password_ranges() {
     // maxLength 65,536; pwdReference 0 and 256; padChar of no and of two bytes
     let option = |component: &str| inline(0xA8, &[common::password(&[password_needs(), hex(component)])]);
     refused(&option("0203010000"), 7, 42);
-    refused(&option("800100"), 6, 42);
+    refused(&option("800100"), 68, 42);
     refused(&option("80020100"), 7, 42);
     refused(&option("0400"), 7, 42);
     refused(&option("04020000"), 7, 42);
@@ -240,7 +244,7 @@ fn conditions_in_a_list() {
     // every header above the first condition has a two-byte length: 16, 20, 24 object, 28, 32, 36, accessMode 40, list 43
     refused(&list(255, &hex("0400")), 7, 47 + 510);
     refused(&list(255, &hex("A000")), 7, 47 + 510);
-    refused(&list(255, &hex("050100")), 6, 47 + 510);
+    refused(&list(255, &hex("050100")), 67, 47 + 510);
     refused(&list(255, &hex("0501")), 4, 47 + 510);
     refused(&list(255, &hex("0000")), 3, 47 + 510);
 }

@@ -94,11 +94,11 @@ impl Maker<'_> {
         for _ in 0..entries {
             self.entry(&mut card, false);
         }
-        if self.option(1, Flaw::Many) {
+        if self.option(1, &[Flaw::Many]) {
             self.entry(&mut card, true);
         }
         card.directory.fill = self.fill();
-        if self.option(2, Flaw::Size) {
+        if self.option(2, &[Flaw::Size]) {
             self.lengthen(&mut card);
         }
         card
@@ -106,13 +106,13 @@ impl Maker<'_> {
 
     fn info(&mut self) -> File {
         let mut parts = vec![self.integer(0x02, 0, 255)];
-        if self.option(30, Flaw::Octets) {
+        if self.option(30, &[Flaw::Octets]) {
             parts.push(self.octets(0x04, 0, 255));
         }
-        if self.option(30, Flaw::Text) {
+        if self.option(30, &[Flaw::Text]) {
             parts.push(self.text(0x0C));
         }
-        if self.option(30, Flaw::Text) {
+        if self.option(30, &[Flaw::Text]) {
             parts.push(self.text(0x80));
         }
         parts.push(self.flags(0x03));

@@ -12,6 +12,10 @@ pub enum Flaw {
     Characters,
     Time,
     Boolean,
+    /// A NULL with contents.
+    Null,
+    /// A default that is written out.
+    Default,
     Octets,
     /// An identifier that is too long.
     Identifier,
@@ -38,13 +42,15 @@ pub enum Flaw {
     Second,
 }
 
-pub const FLAWS: [Flaw; 19] = [
+pub const FLAWS: [Flaw; 21] = [
     Flaw::Integer,
     Flaw::Flags,
     Flaw::Text,
     Flaw::Characters,
     Flaw::Time,
     Flaw::Boolean,
+    Flaw::Null,
+    Flaw::Default,
     Flaw::Octets,
     Flaw::Identifier,
     Flaw::Length,
@@ -65,15 +71,16 @@ impl Maker<'_> {
     pub fn flaw(&mut self, flaw: Flaw) -> bool {
         let percent = match flaw {
             Flaw::Integer | Flaw::Flags | Flaw::Tag | Flaw::Identifier => 12,
-            Flaw::Characters | Flaw::Second => 80,
+            Flaw::Characters | Flaw::Default | Flaw::Second => 80,
             _ => 40,
         };
         self.flaws.contains(&flaw) && self.rng.chance(percent)
     }
 
-    /// Whether an optional component is there: more often on a small card, or for a flaw that it can have.
-    pub fn option(&mut self, percent: usize, flaw: Flaw) -> bool {
-        let percent = if self.small || self.flaws.contains(&flaw) { 70 } else { percent };
+    /// Whether an optional component is there: more often on a small card, or for one of the flaws that it can have.
+    pub fn option(&mut self, percent: usize, flaws: &[Flaw]) -> bool {
+        let wanted = self.flaws.iter().any(|flaw| flaws.contains(flaw));
+        let percent = if self.small || wanted { 70 } else { percent };
         self.rng.chance(percent)
     }
 }

@@ -66,7 +66,7 @@ impl Maker<'_> {
 
     pub fn integer(&mut self, tag: u8, low: u32, high: u32) -> Node {
         if self.flaw(Flaw::Integer) {
-            return self.wrong_integer(tag, low, high);
+            return leaf(tag, self.wrong_integer(low, high));
         }
         let edges = [low, low + 1, 127, 128, 255, 256, 32_767, 32_768, high - 1, high];
         let any = low + (self.rng.draw() % u64::from(high - low + 1)) as u32;
@@ -74,20 +74,20 @@ impl Maker<'_> {
         leaf(tag, integer_contents(value))
     }
 
-    fn wrong_integer(&mut self, tag: u8, low: u32, high: u32) -> Node {
-        let contents = match self.rng.below(10) {
+    /// A number out of its bounds, or one in a bad form, in its bounds or not.
+    fn wrong_integer(&mut self, low: u32, high: u32) -> Vec<u8> {
+        let number = self.rng.pick(&[0, low, high, high + 1]);
+        match self.rng.below(12) {
             0..=3 => integer_contents(high + 1),
             4 => integer_contents(low.saturating_sub(1)),
-            5 => vec![],
-            6 => [vec![0], integer_contents(low)].concat(),
-            7 => vec![self.rng.pick(&[0xFF, 0x80, 0xFE])],
-            8 => vec![0xFF, self.rng.pick(&[0xFF, 0x80, 0x7F])],
-            _ => {
+            5 => vec![self.rng.pick(&[0xFF, 0x80, 0xFE])],
+            6 => vec![0xFF, 0x7F],
+            7 => {
                 let count = self.rng.between(3, 9);
                 [vec![1], self.rng.bytes(count)].concat()
             }
-        };
-        leaf(tag, contents)
+            _ => self.bad_integer(number),
+        }
     }
 
     pub fn flags(&mut self, tag: u8) -> Node {
@@ -97,7 +97,7 @@ impl Maker<'_> {
 
     pub fn flags_of(&mut self, tag: u8, value: u32) -> Node {
         if self.flaw(Flaw::Flags) {
-            return self.wrong_flags(tag);
+            return leaf(tag, self.wrong_flags());
         }
         leaf(tag, flag_contents(value))
     }
@@ -113,27 +113,38 @@ impl Maker<'_> {
         }
     }
 
-    fn wrong_flags(&mut self, tag: u8) -> Node {
-        let any = self.rng.byte();
-        let contents = match self.rng.below(8) {
-            0 => vec![],
-            1 => vec![self.rng.pick(&[1, 7, 8, 255])],
-            2 => vec![self.rng.pick(&[8, 9, 255]), any],
-            3 => vec![self.rng.between(1, 7) as u8, any | 1],
-            4 => vec![0, any & 0xFE],
+    /// A bit string in a bad form, of more than 32 bits or not, or of more in a form that is right.
+    fn wrong_flags(&mut self) -> Vec<u8> {
+        match self.rng.below(8) {
+            0..=2 => self.bad_bits(),
+            3 | 4 => self.trailing_bits(),
             5 => vec![7, 1, 2, 3, 4, 0x80],
-            6 => vec![0, 1, 2, 3, 4, 5],
-            _ => vec![4, 1, 2, 3, 4, 0x20],
-        };
-        leaf(tag, contents)
+            _ => self.many_bits(),
+        }
+    }
+
+    fn many_bits(&mut self) -> Vec<u8> {
+        let unused = self.rng.below(8);
+        let last = (u16::from(self.rng.byte()) | 1) << unused;
+        let before = self.rng.between(4, 6);
+        [vec![unused as u8], self.rng.bytes(before), vec![last as u8]].concat()
     }
 
     /// A BOOLEAN that is not its default.
     pub fn boolean(&mut self, tag: u8, default: bool) -> Node {
         let value = if default { 0x00 } else { 0xFF };
         if self.flaw(Flaw::Boolean) {
-            return leaf(tag, self.rng.pick(&[vec![!value], vec![], vec![1], vec![value, value]]));
+            return leaf(tag, self.bad_boolean());
+        }
+        if self.flaw(Flaw::Default) {
+            return self.written_default(tag, !value);
         }
         leaf(tag, vec![value])
+    }
+
+    /// The one byte of a default or, in a bad form, that byte twice.
+    pub fn written_default(&mut self, tag: u8, byte: u8) -> Node {
+        let count = self.rng.pick(&[1, 1, 1, 2]);
+        leaf(tag, vec![byte; count])
     }
 }

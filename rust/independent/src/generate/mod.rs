@@ -4,6 +4,7 @@ pub mod bytes;
 pub mod card;
 mod fat;
 mod flaw;
+mod forms;
 mod full;
 mod linear;
 mod linear_damage;
@@ -25,13 +26,14 @@ pub fn dump(rng: &mut Rng) -> Vec<u8> {
     if rng.chance(33) {
         return card::valid(rng).encode();
     }
-    match rng.below(47) {
+    match rng.below(53) {
         0..=11 => damaged_tree(rng),
-        12..=26 => card::flawed(rng).encode(),
-        27..=32 => damaged_bytes(rng),
-        33..=38 => damaged_frames(rng),
-        39 => damaged_fill(rng),
-        40..=45 => damaged_records(rng),
+        12..=28 => card::flawed(rng).encode(),
+        29..=34 => damaged_bytes(rng),
+        35..=40 => damaged_frames(rng),
+        41 => damaged_fill(rng),
+        42..=47 => damaged_records(rng),
+        48..=51 => damaged_value(rng),
         _ => full::full(rng).encode(),
     }
 }
@@ -50,10 +52,20 @@ fn damage_tree(rng: &mut Rng, card: &mut Card) {
     if card.all_parts().iter().all(|file| file.nodes.is_empty()) {
         return;
     }
+    tree::damage(&mut spare_maker(rng), card);
+}
+
+/// A card with a value in a bad form, all enclosing lengths repaired.
+fn damaged_value(rng: &mut Rng) -> Vec<u8> {
+    let mut card = card::valid(rng);
+    tree::damage_value(&mut spare_maker(rng), &mut card);
+    card.encode()
+}
+
+/// Makes elements and values for a card that is there already.
+fn spare_maker(rng: &mut Rng) -> Maker<'_> {
     let pool = vec![vec![1], vec![]];
-    let mut maker =
-        Maker { rng, flaws: vec![], pool, own: vec![], taken: vec![], left: 0, small: false, linear: false };
-    tree::damage(&mut maker, card);
+    Maker { rng, flaws: vec![], pool, own: vec![], taken: vec![], left: 0, small: false, linear: false }
 }
 
 /// A card with bytes flipped, cut, added, taken, or a length changed; nothing is repaired.

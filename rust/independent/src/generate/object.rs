@@ -31,19 +31,19 @@ impl Maker<'_> {
 
     fn common(&mut self) -> Node {
         let mut parts = Vec::new();
-        if self.option(30, Flaw::Text) {
+        if self.option(30, &[Flaw::Text]) {
             parts.push(self.text(0x0C));
         }
-        if self.option(30, Flaw::Flags) {
+        if self.option(30, &[Flaw::Flags]) {
             parts.push(self.flags(0x03));
         }
         if self.rng.chance(50) {
             parts.push(self.identifier(0x04));
         }
-        if self.option(20, Flaw::Integer) {
+        if self.option(20, &[Flaw::Integer]) {
             parts.push(self.integer(0x02, 1, 32_767));
         }
-        if self.option(35, Flaw::Condition) {
+        if self.option(35, &[Flaw::Condition, Flaw::Null]) {
             let count = if self.rng.chance(70) { 1 } else { self.rng.between(2, 4) };
             parts.push(group(0x30, (0..count).map(|_| self.rule()).collect()));
         }
@@ -74,19 +74,19 @@ impl Maker<'_> {
 
     fn key_class(&mut self) -> Vec<Node> {
         let mut parts = vec![self.identifier(0x04), self.flags(0x03)];
-        if self.option(25, Flaw::Boolean) {
+        if self.option(25, &[Flaw::Boolean, Flaw::Default]) {
             parts.push(self.boolean(0x01, true));
         }
-        if self.option(25, Flaw::Flags) {
+        if self.option(25, &[Flaw::Flags]) {
             parts.push(self.flags(0x03));
         }
-        if self.option(25, Flaw::Integer) {
+        if self.option(25, &[Flaw::Integer]) {
             parts.push(self.integer(0x02, 0, 255));
         }
-        if self.option(25, Flaw::Time) {
+        if self.option(25, &[Flaw::Time]) {
             parts.push(self.time(0x18));
         }
-        if self.option(25, Flaw::Time) {
+        if self.option(25, &[Flaw::Time]) {
             parts.push(self.time(0x80));
         }
         parts.extend(self.rest(&[0x01, 0x03, 0x02, 0x18, 0x80]));
@@ -95,7 +95,7 @@ impl Maker<'_> {
 
     fn certificate_class(&mut self) -> Vec<Node> {
         let mut parts = vec![self.identifier(0x04)];
-        if self.option(30, Flaw::Boolean) {
+        if self.option(30, &[Flaw::Boolean, Flaw::Default]) {
             parts.push(self.boolean(0x01, false));
         }
         parts.extend(self.rest(&[0x01]));
@@ -107,10 +107,10 @@ impl Maker<'_> {
         if self.rng.chance(80) {
             parts.extend(self.own_identifier());
         }
-        if self.option(30, Flaw::Integer) {
+        if self.option(30, &[Flaw::Integer]) {
             parts.push(self.integer(0x02, 0, 255));
         }
-        if self.option(30, Flaw::Integer) {
+        if self.option(30, &[Flaw::Integer]) {
             parts.push(self.integer(0x80, 0, 255));
         }
         parts.extend(self.rest(&[0x04, 0x02, 0x80]));
@@ -182,27 +182,35 @@ impl Maker<'_> {
 
     fn password_options(&mut self) -> Vec<Node> {
         let mut parts = Vec::new();
-        if self.option(30, Flaw::Integer) {
+        if self.option(30, &[Flaw::Integer]) {
             parts.push(self.integer(0x02, 0, 65_535));
         }
-        if self.option(30, Flaw::Integer) {
-            parts.push(self.integer(0x80, 1, 255));
+        if self.option(30, &[Flaw::Integer, Flaw::Default]) {
+            parts.push(self.pwd_reference());
         }
-        if self.option(30, Flaw::Octets) {
+        if self.option(30, &[Flaw::Octets]) {
             parts.push(self.octets(0x04, 1, 1));
         }
-        if self.option(30, Flaw::Time) {
+        if self.option(30, &[Flaw::Time]) {
             parts.push(self.time(0x18));
         }
-        if self.option(30, Flaw::Rule) {
+        if self.option(30, &[Flaw::Rule]) {
             parts.push(self.path());
         }
         parts
     }
 
+    /// A pwdReference that is not its default, 0.
+    fn pwd_reference(&mut self) -> Node {
+        if self.flaw(Flaw::Default) {
+            return self.written_default(0x80, 0);
+        }
+        self.integer(0x80, 1, 255)
+    }
+
     pub fn path(&mut self) -> Node {
         let mut parts = vec![self.octets(0x04, 0, 64)];
-        if self.option(30, Flaw::Rule) {
+        if self.option(30, &[Flaw::Rule]) {
             parts.push(self.integer(0x02, 0, 65_535));
             parts.push(self.integer(0x80, 0, 65_535));
             if self.flaw(Flaw::Rule) {

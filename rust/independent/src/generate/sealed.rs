@@ -119,6 +119,9 @@ impl Maker<'_> {
         if levels == 8 && self.flaw(Flaw::Condition) {
             return self.wrong_condition();
         }
+        if levels == 8 && self.flaw(Flaw::Null) {
+            return self.condition_with_null();
+        }
         if levels == 1 || self.rng.chance(60) {
             return self.simple_condition();
         }
@@ -143,7 +146,13 @@ impl Maker<'_> {
 
     /// A chain of `levels` conditions.
     pub fn deep_condition(&mut self, levels: usize) -> Node {
-        let mut node = self.simple_condition();
+        let last = self.simple_condition();
+        self.chain(levels, last)
+    }
+
+    /// A chain of `levels` conditions that goes down to this one.
+    fn chain(&mut self, levels: usize, last: Node) -> Node {
+        let mut node = last;
         for _ in 1..levels {
             node = match self.rng.below(3) {
                 0 => group(0xA1, vec![self.simple_condition(), node]),
@@ -161,13 +170,22 @@ impl Maker<'_> {
         group(tag, (0..count).map(|_| self.rng.pick(&leaves)).collect())
     }
 
+    /// A list of `count` leaves and of this one behind them.
+    fn long_list_and(&mut self, count: usize, last: Node) -> Node {
+        let mut list = self.long_list(count);
+        if let Body::Parts(parts) = &mut list.body {
+            parts.push(last);
+        }
+        list
+    }
+
     fn wrong_condition(&mut self) -> Node {
         match self.rng.below(9) {
             0 => self.deep_condition(9),
             1 => self.condition_256(),
             2 => group(0xA0, vec![]),
             3 => group(0xA0, vec![self.simple_condition(), self.simple_condition()]),
-            4 => leaf(0x05, vec![0]),
+            4 => self.condition_with_null(),
             5 => self.long_list(1),
             6 => self.long_list(0),
             7 => self.long_list(256),
@@ -178,18 +196,29 @@ impl Maker<'_> {
     /// A list of 255 and one more, which may be wrong in another way too.
     fn condition_256(&mut self) -> Node {
         let last = match self.rng.below(6) {
-            0 => leaf(0x05, vec![0]),
+            0 => leaf(0x05, self.bad_null()),
             1 => leaf(0x04, vec![7; 256]),
             2 => group(0xA0, vec![]),
             3 => leaf(0x30, vec![0]),
             4 => Node { tag: self.bad_tag(), length: None, body: Body::Bytes(vec![]) },
             _ => self.condition(2),
         };
-        let mut list = self.long_list(255);
-        if let Body::Parts(parts) = &mut list.body {
-            parts.push(last);
+        self.long_list_and(255, last)
+    }
+
+    /// A NULL with contents: alone, on each of the levels, the last of a list, or one more than a list may have.
+    fn condition_with_null(&mut self) -> Node {
+        let null = leaf(0x05, self.bad_null());
+        let count = self.rng.pick(&[0, 1, 2, 254]);
+        match self.rng.below(5) {
+            0 => null,
+            1 | 2 => {
+                let levels = self.rng.between(2, 8);
+                self.chain(levels, null)
+            }
+            3 => self.long_list_and(count, null),
+            _ => self.long_list_and(255, null),
         }
-        list
     }
 
     /// Seven levels, and on the eighth a list or `not` that holds too little or goes too deep.

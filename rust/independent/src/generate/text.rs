@@ -104,11 +104,17 @@ impl Maker<'_> {
         if self.flaw(Flaw::Characters) {
             return leaf(tag, self.wrong_characters());
         }
-        let mut bytes = if self.rng.chance(5) { self.long_text() } else { self.short_text() };
         if self.flaw(Flaw::Text) {
-            insert_no_text(self.rng, &mut bytes);
+            return leaf(tag, self.bad_text());
         }
-        leaf(tag, bytes)
+        leaf(tag, if self.rng.chance(5) { self.long_text() } else { self.short_text() })
+    }
+
+    /// 65: a text with what is none before or behind one of its characters.
+    pub fn bad_text(&mut self) -> Vec<u8> {
+        let mut bytes = if self.rng.chance(10) { self.long_text() } else { self.short_text() };
+        insert_no_text(self.rng, &mut bytes);
+        bytes
     }
 
     /// A text of at most 255 bytes, mostly of a few.
@@ -144,6 +150,11 @@ impl Maker<'_> {
     }
 
     pub fn time(&mut self, tag: u8) -> Node {
+        let text = if self.flaw(Flaw::Time) { self.bad_time() } else { self.right_time() };
+        leaf(tag, text)
+    }
+
+    fn right_time(&mut self) -> Vec<u8> {
         let year = self.rng.pick(&[0, 4, 100, 1900, 1999, 2000, 2023, 2024, 2100, 2400, 9999]);
         let month = if self.rng.chance(40) { 2 } else { self.rng.between(1, 12) as u32 };
         let last = days(year, month);
@@ -151,14 +162,12 @@ impl Maker<'_> {
         let hour = self.rng.pick(&[0, 9, 10, 19, 20, 23]);
         let minute = self.rng.pick(&[0, 9, 10, 59]);
         let second = self.rng.pick(&[0, 9, 30, 59]);
-        let mut text = format!("{year:04}{month:02}{day:02}{hour:02}{minute:02}{second:02}Z").into_bytes();
-        if self.flaw(Flaw::Time) {
-            self.spoil_time(&mut text);
-        }
-        leaf(tag, text)
+        format!("{year:04}{month:02}{day:02}{hour:02}{minute:02}{second:02}Z").into_bytes()
     }
 
-    fn spoil_time(&mut self, text: &mut Vec<u8>) {
+    /// 66, but for a few: a time of another length, with another sign, or that there is not.
+    pub fn bad_time(&mut self) -> Vec<u8> {
+        let mut text = self.right_time();
         match self.rng.below(12) {
             0 => text.push(b'Z'),
             1 => text.truncate(self.rng.below(15)),
@@ -173,5 +182,6 @@ impl Maker<'_> {
                 text[at..at + 2].copy_from_slice(two);
             }
         }
+        text
     }
 }

@@ -5,6 +5,9 @@ use super::node::{group, Body, Card, File, Node};
 use super::text;
 use crate::write::element::{flag_contents, integer_contents};
 
+/// The tags that tell what a value may be.
+const VALUES: [u8; 8] = [0x01, 0x02, 0x03, 0x05, 0x0A, 0x0C, 0x18, 0x80];
+
 /// Damages one element of the card.
 pub fn damage(maker: &mut Maker, card: &mut Card) {
     let mut files: Vec<&mut File> = card.all_parts().into_iter().filter(|file| !file.nodes.is_empty()).collect();
@@ -108,5 +111,45 @@ fn odd_length(maker: &mut Maker, length: usize) -> Vec<u8> {
         5 => vec![low.wrapping_sub(1) & 0x7F],
         6 => vec![0x84, 0, 0, high, low],
         _ => vec![maker.rng.byte()],
+    }
+}
+
+/// Gives one value of the card a bad form; its tag is chosen first, so that rare ones have their turn.
+pub fn damage_value(maker: &mut Maker, card: &mut Card) {
+    let mut found = Vec::new();
+    for file in card.all_parts() {
+        file.nodes.iter_mut().for_each(|node| values(node, &mut found));
+    }
+    let mut tags: Vec<u8> = found.iter().map(|node| node.tag[0]).collect();
+    tags.sort();
+    tags.dedup();
+    let tag = maker.rng.pick(&tags);
+    found.retain(|node| node.tag[0] == tag);
+    let at = maker.rng.below(found.len());
+    found[at].body = Body::Bytes(bad_value(maker, tag));
+}
+
+/// The values in this element, or itself if it is one; some are in sealed parts, where no form is looked at.
+fn values<'n>(node: &'n mut Node, found: &mut Vec<&'n mut Node>) {
+    match node.body {
+        Body::Bytes(_) if VALUES.contains(&node.tag[0]) => found.push(node),
+        Body::Bytes(_) => {}
+        Body::Parts(ref mut parts) => parts.iter_mut().for_each(|part| values(part, found)),
+    }
+}
+
+/// A value in a bad form, or what may be a default.
+fn bad_value(maker: &mut Maker, tag: u8) -> Vec<u8> {
+    let number = maker.rng.pick(&[0, 1, 4, 127, 255, 65_536]);
+    match (tag, maker.rng.below(4)) {
+        (0x01, 0) => vec![maker.rng.pick(&[0x00, 0xFF])],
+        (0x01, _) => maker.bad_boolean(),
+        (0x80, 0) => vec![0],
+        (0x02 | 0x0A, _) | (0x80, 1) => maker.bad_integer(number),
+        (0x03, 0 | 1) => maker.bad_bits(),
+        (0x03, _) => maker.trailing_bits(),
+        (0x05, _) => maker.bad_null(),
+        (0x0C, _) | (0x80, 2) => maker.bad_text(),
+        _ => maker.bad_time(),
     }
 }

@@ -4,7 +4,7 @@ use super::element::Element;
 use super::inside::Inside;
 use super::{sealed, values, Reader};
 use crate::book;
-use crate::refusal::{Refusal, TAG, VALUE};
+use crate::refusal::{Refusal, DEFAULT, TAG};
 
 impl<'a> Reader<'a> {
     pub fn record(&mut self, kind: u16, payload: &[u8]) {
@@ -57,7 +57,7 @@ impl<'a> Reader<'a> {
     pub fn boolean(&mut self, it: Element, kind: u16, default: bool) -> Result<(), Refusal> {
         let value = values::boolean(it.contents(self.dump)).map_err(|no| (no, it.at))?;
         if value == default {
-            return Err((VALUE, it.at));
+            return Err((DEFAULT, it.at));
         }
         self.record(kind, &[u8::from(value)]);
         Ok(())

@@ -3,7 +3,7 @@
 use super::element::Element;
 use super::inside::Inside;
 use super::Reader;
-use crate::refusal::{Refusal, RULE, VALUE};
+use crate::refusal::{Refusal, DEFAULT, RULE};
 
 impl Reader<'_> {
     pub fn type_attributes(&mut self, entry_tag: u8, object: Element, outer: Element) -> Result<(), Refusal> {
@@ -67,7 +67,7 @@ impl Reader<'_> {
             let value = self.integer(pwd_reference, 0x0195, 0, 255)?;
             // its default is 0
             if value == 0 {
-                return Err((VALUE, pwd_reference.at));
+                return Err((DEFAULT, pwd_reference.at));
             }
         }
         if let Some(pad_char) = inside.optional(0x04)? {

@@ -1,22 +1,23 @@
-//! The forms and bounds of values. Each answers the value or a refusal's number: 6 for the form, 7 for the bound.
+//! The forms and bounds of values. Each answers the value or a refusal's number: 61 to 67 for the form, then 7 for the
+//! bound. 68 is the components' own, which know their defaults.
 
-use crate::refusal::{RANGE, VALUE};
+use crate::refusal::{BITS, BOOLEAN, INTEGER, NULL, RANGE, TEXT, TIME, TRAILING};
 
 /// "BOOLEAN is 00 or FF."
 pub fn boolean(contents: &[u8]) -> Result<bool, u32> {
     match contents {
         [0x00] => Ok(false),
         [0xFF] => Ok(true),
-        _ => Err(VALUE),
+        _ => Err(BOOLEAN),
     }
 }
 
 /// "INTEGER and ENUMERATED are shortest; a negative one is 7."
 pub fn integer(contents: &[u8], low: u32, high: u32) -> Result<u32, u32> {
     match contents {
-        [] => return Err(VALUE),
-        [0x00, second, ..] if *second < 0x80 => return Err(VALUE),
-        [0xFF, second, ..] if *second >= 0x80 => return Err(VALUE),
+        [] => return Err(INTEGER),
+        [0x00, second, ..] if *second < 0x80 => return Err(INTEGER),
+        [0xFF, second, ..] if *second >= 0x80 => return Err(INTEGER),
         [first, ..] if *first >= 0x80 => return Err(RANGE),
         _ => {}
     }
@@ -34,18 +35,18 @@ pub fn integer(contents: &[u8], low: u32, high: u32) -> Result<u32, u32> {
 /// "Named-bit strings: unused bits zero, trailing zero bits removed (none set is 03 01 00), at most 32 bits;
 /// named bit i becomes 2^i in the book."
 pub fn flags(contents: &[u8]) -> Result<u32, u32> {
-    let (unused, bytes) = contents.split_first().ok_or(VALUE)?;
+    let (unused, bytes) = contents.split_first().ok_or(BITS)?;
     let Some(last) = bytes.last() else {
-        return if *unused == 0 { Ok(0) } else { Err(VALUE) };
+        return if *unused == 0 { Ok(0) } else { Err(BITS) };
     };
     if *unused > 7 {
-        return Err(VALUE);
+        return Err(BITS);
     }
     if *last != (*last >> unused) << unused {
-        return Err(VALUE);
+        return Err(BITS);
     }
     if (*last >> unused) & 1 == 0 {
-        return Err(VALUE);
+        return Err(TRAILING);
     }
     if bytes.len() * 8 - usize::from(*unused) > 32 {
         return Err(RANGE);
@@ -61,7 +62,7 @@ pub fn flags(contents: &[u8]) -> Result<u32, u32> {
 
 /// "UTF8String is well formed." and "255 characters", whatever their widths
 pub fn text(contents: &[u8]) -> Result<(), u32> {
-    let text = std::str::from_utf8(contents).map_err(|_| VALUE)?;
+    let text = std::str::from_utf8(contents).map_err(|_| TEXT)?;
     if text.chars().count() > 255 {
         Err(RANGE)
     } else {
@@ -83,7 +84,7 @@ pub fn null(contents: &[u8]) -> Result<(), u32> {
     if contents.is_empty() {
         Ok(())
     } else {
-        Err(VALUE)
+        Err(NULL)
     }
 }
 
@@ -92,7 +93,7 @@ pub fn time(contents: &[u8]) -> Result<(), u32> {
     if is_time(contents) {
         Ok(())
     } else {
-        Err(VALUE)
+        Err(TIME)
     }
 }
 
