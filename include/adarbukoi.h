@@ -39,7 +39,8 @@ enum {
                                record length of a record file runs over */
     ADARBUKOI_TAG = 3,      /* bad or cut-off tag form, or not the component due here, or one more than is due */
     ADARBUKOI_LENGTH = 4,   /* bad length form, cut off, or beyond its container */
-    ADARBUKOI_MISSING = 5,  /* a container ends early; the place is its end */
+    ADARBUKOI_MISSING = 5,  /* a container ends early, or a template of ours in EF.DIR has neither path nor 73; the place is
+                               its end */
     ADARBUKOI_RANGE = 7,    /* outside a stated bound, lengths included (of a label in characters); the 256th
                                condition of one list */
     ADARBUKOI_RULE = 8,     /* index without length or the reverse; pwdFlags bits 6 and 7 both set */

@@ -44,7 +44,7 @@ fn words(number: u32) -> (&'static str, &'static str) {
         ),
         3 => ("tag", "bad or cut-off tag form, or not the component due here, or one more than is due"),
         4 => ("length", "bad length form, cut off, or beyond its container"),
-        5 => ("missing", "container ends early"),
+        5 => ("missing", "container ends early, or a template of ours has neither path nor 73"),
         61 => ("boolean", "BOOLEAN not one byte of 00 or FF"),
         62 => ("integer", "INTEGER or ENUMERATED empty or too long in form"),
         63 => ("bits", "bit string: empty, bad unused count or unused bits set"),

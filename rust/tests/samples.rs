@@ -4,6 +4,7 @@ use adarbukoi::{field, list, read, write, Refusal};
 
 const ANNEX_E2: &[u8] = include_bytes!("../../samples/annex-e2.dump");
 const RECORD_FILES: &[u8] = include_bytes!("../../samples/record-files.dump");
+const TWO_APPLICATIONS: &[u8] = include_bytes!("../../samples/two-applications.dump");
 const TWO_SCRIPTS: &[u8] = include_bytes!("../../samples/two-scripts.dump");
 
 /// The book of a card: so long, written back to the dump, and with these links.
@@ -19,9 +20,21 @@ fn book(dump: &[u8], length: usize, links: &[u32]) -> Vec<u8> {
     book
 }
 
+const ROWS: [u32; 16] = [1, 0, 97, 3, 3, 0, 110, 2, 1, 1, 196, 3, 3, 1, 201, u32::MAX];
+
 #[test]
 fn record_files() {
-    book(RECORD_FILES, 416, &[1, 0, 97, 3, 3, 0, 110, 2, 1, 1, 196, 3, 3, 1, 201, u32::MAX]);
+    book(RECORD_FILES, 416, &ROWS);
+}
+
+/// The same behind an EF.DIR of two templates, one of ours: its records are behind the others, so no row changes.
+#[test]
+fn two_applications() {
+    let with = book(TWO_APPLICATIONS, 557, &ROWS);
+    assert_eq!(with[..416], book(RECORD_FILES, 416, &ROWS));
+    assert_eq!(with[416..425], [2, 0, 0x00, 2, 3, 0, 0x01, 2, 0]);
+    let none = Err(Refusal { number: 16, place: 0 });
+    assert_eq!((field(&with, 3, 0x0200), field(&with, 3, 0x0202)), (none, none));
 }
 
 #[test]

@@ -11,7 +11,10 @@ use Rattle.elements.specs.Put.{le16}
 use Rattle.rules.specs.Reading.{Rec, rec}
 use Rattle.rules.specs.Grammar.{fill, flat}
 use Rattle.rules.specs.Files.{Name}
-use Rattle.rules.specs.Blocks.{closing, inner, contents-inner}
+use Rattle.rules.specs.Blocks.{closing, every, every-kind, inner, contents-inner}
+use Rattle.rules.specs.Kinds.{Among, none-there, there}
+use Rattle.rules.specs.Layouts as layouts
+use Rattle.rules.specs.FileLayouts as filing
 use Rattle.rules.specs.Entries as entries
 use Rattle.cards.specs.Card as card
 use Rattle.cards.specs.Card.{Card, Object, recordsOf, front, behind, objectsOf}
@@ -76,6 +79,18 @@ unfolding card.files card.inFiles
 files-blocks [] x = nothing
 files-blocks (n ∷ ns) (f, x) = append (file-blocks n f) (files-blocks ns x)
 
--- EF.OD's records and the files' are blocks of the card's objects, in turn
-pub card-blocks : (c : Card) → Blocks (objectsOf c) (card.od .book (c .main) ++ card.files (card.namesOf (c .main)) .book (c .dirs))
-card-blocks c = append (filled (entries-blocks (c .main .0)) (c .main .1)) (files-blocks (card.namesOf (c .main)) (c .dirs))
+-- records that close an object and are no object's own
+among-blocks : (ks : List ℕ) → T (every (λ k. closing k && not (eqb k 0x0120)) ks) → {rs : List Rec} → Among ks rs → Blocks [] rs
+among-blocks ks t none-there = nothing
+among-blocks ks t (there {r = r} h g) = other (r .kind) (r .pay) (every-kind (λ k. closing k && not (eqb k 0x0120)) (r .kind) ks t h) (among-blocks ks t g)
+
+-- EF.DIR's are such
+pub dir-blocks : (x : card.efDir .Of) → Blocks [] (card.efDir .book x)
+unfolding layouts.template layouts.discretionary layouts.pathFrom
+dir-blocks none = nothing
+dir-blocks (some x) = among-blocks filing.dirKinds tt (filing.dir-only x)
+
+-- EF.OD's records and the files' are blocks of the card's objects, in turn; and so they are with EF.DIR's behind them
+pub card-blocks : (c : Card) → Blocks (objectsOf c) ((card.od .book (c .main) ++ card.files (card.namesOf (c .main)) .book (c .dirs)) ++ card.efDir .book (c .dir))
+card-blocks c = subst (λ os. Blocks os ((card.od .book (c .main) ++ card.files (card.namesOf (c .main)) .book (c .dirs)) ++ card.efDir .book (c .dir))) (append-nil (objectsOf c))
+    (append (append (filled (entries-blocks (c .main .0)) (c .main .1)) (files-blocks (card.namesOf (c .main)) (c .dirs))) (dir-blocks (c .dir)))

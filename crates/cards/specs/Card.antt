@@ -13,7 +13,7 @@ use Rattle.rules.specs.Reading.{Rec, rec}
 use Rattle.rules.specs.Tables.{classOf}
 use Rattle.rules.specs.Files.{Name, paths}
 use Rattle.rules.specs.Grammar as grammar
-use Rattle.rules.specs.Grammar.{Part, empty, _and_, many, oneOf, lengthed, flat}
+use Rattle.rules.specs.Grammar.{Part, empty, _and_, many, oneOf, possibly, lengthed, flat}
 use Rattle.rules.specs.Conditions.{condition}
 use Rattle.rules.specs.Layouts as layouts
 use Rattle.rules.specs.Entries as entries
@@ -66,18 +66,35 @@ unfoldable pub files : List Name → Part
 files [] = empty
 files (n ∷ ns) = file n and files ns
 
--- CIAInfo, EF.OD, and a directory file for each entry that names a path
+-- "EF.DIR comes with the dump": "application templates", other elements, fill
+abbrev pub templates : Part
+templates = filing.dir .part
+
+-- "It stands as a dump record 0005, allowed once, before 0001"; "A file is at most 16,383 bytes"
+abbrev pub framedDir : Part
+framedDir = record {
+  Of = templates .Of;
+  bytes = λ x. recordBytes 5 (templates .bytes x);
+  book = templates .book;
+  Meets = λ x. templates .Meets x × (length (templates .bytes x) ≤ 16383);
+}
+
+abbrev pub efDir : Part
+efDir = possibly framedDir
+
+-- EF.DIR if there is one, CIAInfo, EF.OD, and a directory file for each entry that names a path
 pub record Card : Type 0 where
+  pub dir : efDir .Of
   pub info : cia .Of
   pub main : od .Of
   pub dirs : files (namesOf main) .Of
 
 -- "one record of kind 0001 (CIAInfo), one 0002 (EF.OD), then records 0003" and 0004
 abbrev pub dumpOf : Card → List ℕ
-dumpOf c = recordBytes 1 (cia .bytes (c .info)) ++ (recordBytes 2 (od .bytes (c .main)) ++ files (namesOf (c .main)) .bytes (c .dirs))
+dumpOf c = efDir .bytes (c .dir) ++ (recordBytes 1 (cia .bytes (c .info)) ++ (recordBytes 2 (od .bytes (c .main)) ++ files (namesOf (c .main)) .bytes (c .dirs)))
 
 abbrev pub bookOf : Card → List Rec
-bookOf c = cia .book (c .info) ++ (od .book (c .main) ++ files (namesOf (c .main)) .book (c .dirs))
+bookOf c = (cia .book (c .info) ++ (od .book (c .main) ++ files (namesOf (c .main)) .book (c .dirs))) ++ efDir .book (c .dir)
 
 -- an object: its entry's tag, and what it is
 abbrev pub Object : Type 0
@@ -155,6 +172,7 @@ Distinct (x ∷ xs) = NotIn x xs × Distinct xs
 
 -- what a card has to meet
 pub record Meets (c : Card) : Type 0 where
+  pub dir : efDir .Meets (c .dir)
   pub info : cia .Meets (c .info)
   pub main : od .Meets (c .main)
   pub dirs : files (namesOf (c .main)) .Meets (c .dirs)

@@ -32,6 +32,7 @@ passwordObject = (0x30, ((((((none, (none, (some (0x02 ∷ []), (none, tt)))), n
 unfoldable sharedCard : Card
 unfolding card.files entries.object typeOf layouts.insides layouts.cia layouts.info
 sharedCard = record {
+  dir = none;
   info = (((1, (none, (none, (none, (0, tt))))), []), none);
   main = (inl (0xa0, inl (0x44 ∷ 0x01 ∷ [])) ∷ inl (0xa8, inl (0x44 ∷ 0x04 ∷ [])) ∷ [], none);
   dirs = (inl (keyObject ∷ [], none), (inl (passwordObject ∷ [], none), tt));
@@ -54,6 +55,7 @@ containerObject = (0x30, ((((((none, (none, (none, (none, tt)))), none), []), []
 unfoldable mixedCard : Card
 unfolding card.files entries.object typeOf layouts.insides layouts.cia layouts.info
 mixedCard = record {
+  dir = none;
   info = (((1, (none, (none, (none, (0, tt))))), []), none);
   main = (inl (0xa7, inl (0x44 ∷ [])) ∷ inl (0xa8, inl (0x45 ∷ [])) ∷ [], none);
   dirs = (inr ((containerObject ∷ [], some (0xff, 2)) ∷ ([], none) ∷ ([], some (0x00, 2)) ∷ (containerObject ∷ [], none) ∷ []), (inl ([], some (0xff, 1)), tt));
@@ -71,6 +73,7 @@ mixed-book = refl
 unfoldable labelledCard : Card
 unfolding card.files entries.object typeOf layouts.insides layouts.cia layouts.info
 labelledCard = record {
+  dir = none;
   info = (((1, (none, (some (0x391 ∷ 0x41 ∷ []), (some (0x1d11e ∷ []), (0, tt))))), []), none);
   main = ([], none);
   dirs = tt;

@@ -1,21 +1,24 @@
 -- Where in a card's book its paths, its own identifiers and its conditions' identifiers stand.
 use Prim.Native.Nat.{ℕ, zero, suc, _≤_}
 use mathlib.Core.List.{List, [], _∷_, _++_, append-nil, append-assoc, List·Memᴰ}
-use mathlib.Core.Bool.{false, not}
+use mathlib.Core.Bool.{Bool, true, false, not}
 use mathlib.Core.Logic.{_↔_, inl, inr}
 use mathlib.Core.Option.{Option, none, some}
 use mathlib.Core.Path.{_≡_, refl, sym, _∙_}
 use native.Mathlib.Omega.{arith}
 use lib.ListN.{length}
 use lib.Dec.{eqb, T}
-use borrow.Author.Tests.{le-leb}
+use borrow.Author.Tests.{le-leb, eqb-true}
+use Rattle.elements.specs.Choice.{choose}
 use Rattle.elements.specs.Sealed.{among}
 use Rattle.rules.specs.declared.table.Class.{Class}
 use Rattle.rules.specs.declared.table.Class.the-variants.{Keys, Certificates, Containers, Authentications}
 use Rattle.rules.specs.declared.table.ObjectType.{ObjectType}
 use Rattle.rules.specs.declared.table.Sort.the-variants.{Always, Identifier, Not, And, Or, Other}
 use Rattle.rules.specs.declared.table.Row.{Row}
-use Rattle.rules.specs.Reading.{rec}
+use Rattle.rules.specs.Reading.{Rec, rec}
+use Rattle.rules.specs.Blocks.{closing, inner}
+use Rattle.rules.specs.TestLaws.{and-left, and-right}
 use Rattle.rules.specs.Tables.{classOf, typeOf, kindOf, certificateIdRow, ownIdRow, keyRows, certificateRows, authenticationRows, commonRows, ruleRows}
 use Rattle.rules.specs.Parts.{keptOut}
 use Rattle.rules.specs.Grammar.{elementBytes, firstOf, field, fields, optional, tagged, fill, flat}
@@ -28,7 +31,8 @@ use Rattle.rules.specs.Files as files
 use Rattle.rules.specs.Files.{Name}
 use Rattle.rules.specs.Pays.{pays, pays-append, pays-flat, pays-none, names-append, names-none, lacks, times, Few, one-few, and-few, rest-few, fields-few, in-pays}
 use Rattle.cards.specs.Card as card
-use Rattle.cards.specs.Card.{Object, recordsOf, identifiersIn}
+use Rattle.cards.specs.Card.{Object, recordsOf, behind, identifiersIn}
+use Rattle.cards.specs.Blocks.{records-are, behind-inner}
 
 -- ---- an object: what its common part and its class say of a kind that stands nowhere else in it
 abbrev Elsewhere : ℕ → Type 0
@@ -230,22 +234,27 @@ module _ (k : ℕ) (g : Object → List (List ℕ)) (h : (o : Object) → pays k
 pub card-ids : (o : card.od .Of) (ns : List Name) (x : card.files ns .Of) → pays (ownIdRow .kind) (card.od .book o ++ card.files ns .book x) ≡ flat card.ownId (flat card.inEntry (o .0) ++ card.inFiles ns x)
 card-ids = card-pays (ownIdRow .kind) card.ownId own-pays refl refl (refl, refl, refl)
 
--- ---- 0110 stands in no object
-path-elsewhere : Elsewhere 0x0110
-unfolding layouts.insides
-path-elsewhere = (refl, tt, (λ x. tt))
+-- ---- a kind that closes an object, as 0110 and EF.DIR's do, stands in none
+inner-pays : (k : ℕ) → closing k ≡ true → (rs : List Rec) → T (inner rs) → pays k rs ≡ []
+unfolding pays
+inner-pays k c [] h = refl
+inner-pays k c (r ∷ rs) h = go (eqb (r .kind) k) refl (inner-pays k c rs (and-right (not (closing (r .kind))) (inner rs) h))
+  where
+    go : (b : Bool) → eqb (r .kind) k ≡ b → pays k rs ≡ [] → choose b (λ _. r .pay ∷ pays k rs) (λ _. pays k rs) ≡ []
+    go true e i = absurd (rw (eqb-true (r .kind) k e, c) at (and-left (not (closing (r .kind))) (inner rs) h))
+    go false e i = i
 
-no-path : (o : Object) → pays 0x0110 (recordsOf o) ≡ []
-unfolding layouts.common layouts.rules layouts.rule layouts.class
-no-path (t, x) = object-pays 0x0110 path-elsewhere (λ _. []) (λ _ _. []) (λ y. lacks 0x0110 layouts.common tt y) (λ c. elim c [ Keys ↦ (λ y. lacks 0x0110 (layouts.class Keys) tt y) | Certificates ↦ (λ y. lacks 0x0110 (layouts.class Certificates) tt y) | Authentications ↦ (λ y. lacks 0x0110 (layouts.class Authentications) tt y) | Containers ↦ (λ y. lacks 0x0110 (layouts.class Containers) tt y) ]) t x
+pub in-none : (k : ℕ) → closing k ≡ true → eqb 0x0120 k ≡ false → (o : Object) → pays k (recordsOf o) ≡ []
+unfolding pays
+in-none k c e o = rw (records-are o, e) (inner-pays k c (behind o) (behind-inner o))
+
+pub nothing-flat : {A : Type 0} (xs : List A) → flat {B = List ℕ} (λ _. []) xs ≡ []
+nothing-flat [] = refl
+nothing-flat (x ∷ xs) = nothing-flat xs
 
 -- objects name none
 pub objects-names : (t : ℕ) (os : List (entries.object t .part .Of)) → files.namesOf (flat (entries.object t .part .book) os) ≡ []
-objects-names t os = names-none (flat (entries.object t .part .book) os) (pays-flat 0x0110 (entries.object t .part .book) (λ _. []) (λ o. no-path (t, o)) os ∙ go os)
-  where
-    go : {A : Type 0} (xs : List A) → flat {B = List ℕ} (λ _. []) xs ≡ []
-    go [] = refl
-    go (x ∷ xs) = go xs
+objects-names t os = names-none (flat (entries.object t .part .book) os) (pays-flat 0x0110 (entries.object t .part .book) (λ _. []) (λ o. in-none 0x0110 refl refl (t, o)) os ∙ nothing-flat os)
 
 entry-names : (x : entries.item .Of) → files.namesOf (entries.item .book x) ≡ card.nameIn x
 unfolding files.namesOf

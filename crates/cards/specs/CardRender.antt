@@ -1,25 +1,26 @@
 -- Rendering a card's book gives its dump, and a book has one card.
 use Prim.Native.Nat.{ℕ, _-_, _*_, _%_, _≤_}
-use mathlib.Core.Path.{_≡_, refl, ap, _∙_, subst}
-use mathlib.Core.List.{List, [], _∷_, _++_, append-nil}
+use mathlib.Core.Path.{_≡_, refl, sym, ap, _∙_, subst}
+use mathlib.Core.List.{List, [], _∷_, _++_, append-nil, append-assoc}
 use mathlib.Core.Bool.{Bool, true, false}
 use native.Mathlib.Omega.{arith}
+use native.Mathlib.Nat.{le-refl}
 use lib.ListN.{length, length-append}
 use lib.Seq.{take-at}
 use lib.Dec.{leb, T, leb→le}
 use Rattle.elements.specs.Record.{recordBytes}
-use Rattle.rules.specs.Reading.{Rec, rec}
+use Rattle.rules.specs.Reading.{Rec}
 use Rattle.rules.specs.Files as files
 use Rattle.rules.specs.Files.{Name}
 use Rattle.rules.specs.Looks.{Look, look, elemLook, joinLook, seqLook}
 use Rattle.rules.specs.LookLaws.{Fresh, Begins, size, Laid, avoids, begins-fresh}
-use Rattle.rules.specs.Rendering.{Renderer, gives, nothing, _next_}
-use Rattle.rules.specs.RenderLaws.{Renders, told, and-renders, none-renders, lengthed-renders, many-renders, one-of-renders, behind-renders, weaken}
+use Rattle.rules.specs.Rendering.{Renderer, gives, when, _next_}
+use Rattle.rules.specs.RenderLaws.{Renders, told, and-renders, none-renders, lengthed-renders, many-renders, one-of-renders, with-renders, possibly-renders, behind-renders, weaken}
 use Rattle.rules.specs.Grammar.{Part, empty, _and_}
 use Rattle.rules.specs.Layouts as layouts
 use Rattle.rules.specs.Entries as entries
 use Rattle.rules.specs.FileLayouts as filing
-use Rattle.rules.specs.Render.{rCia, rOd, rDirectory, rRecordIn, rLinear, rNamed, rFile, rDirectories, framing, used, render}
+use Rattle.rules.specs.Render.{rCia, rOd, rDirectory, rRecordIn, rLinear, rNamed, rFile, rDirectories, rDir, framing, used, render}
 use Rattle.cards.specs.Card as card
 use Rattle.cards.specs.CardKinds.{od-names}
 use Rattle.cards.specs.Card.{Card, Meets, dumpOf, bookOf}
@@ -71,7 +72,7 @@ linearLook = look (0x0119 ∷ []) false (0x011a ∷ filing.recordIn 0 .kinds .st
 
 linear-renders : (t : ℕ) → Renders (card.linear t) rLinear linearLook
 unfolding rLinear entries.object layouts.insides
-linear-renders t = behind-renders (rec 0x0119 []) tt tt (many-renders tt (record-renders t))
+linear-renders t = behind-renders 0x0119 0 (λ _. []) tt tt (λ _. le-refl 0) (many-renders tt (record-renders t))
 
 -- a file in its record, behind its path: a path is too short for its length to wrap
 named-renders : (kind : ℕ) (path : List ℕ) {P : Part} {q : Renderer} {L : Look} → T (leb (L .credit) 16) → Renders P q L → Renders (card.named kind path P) (rNamed kind path q) (elemLook L)
@@ -98,26 +99,23 @@ file-renders n = one-of-renders (named-renders 3 (n .path) tt (directory-renders
 abbrev pub filesLook : Look
 filesLook = look (0x0118 ∷ 0x0119 ∷ []) true (fileLook .stop) 0
 
--- the files in turn
-abbrev pub rFiles : List Name → Renderer
-rFiles [] = nothing
-rFiles (n ∷ ns) = rFile (n .path) next rFiles ns
-
 -- their records begin with 0118 or 0119, are not too long, fit a book, and tell their data
-pub files-renders : (ns : List Name) → Renders (card.files ns) (rFiles ns) filesLook
-unfolding card.files entries.object layouts.insides
+pub files-renders : (ns : List Name) → Renders (card.files ns) (rDirectories ns) filesLook
+unfolding card.files rDirectories entries.object layouts.insides
 files-renders [] = weaken {P = empty} (look [] true [] 0) filesLook tt none-renders
 files-renders (n ∷ ns) = weaken {P = card.file n and card.files ns} (seqLook fileLook filesLook) filesLook tt (and-renders {P = card.file n} {Q = card.files ns} (file-renders n) (files-renders ns) tt)
 
--- which is how a dump's files are rendered
-directories-is : (ns : List Name) (rs : List Rec) → rDirectories ns rs ≡ rFiles ns rs .bytes
-unfolding rDirectories
-directories-is [] rs = refl
-directories-is (n ∷ ns) rs = rw (directories-is ns (rFile (n .path) rs .left)) refl
+-- EF.DIR, where there is one: its own record's four bytes pay for 0200 and for its fill
+abbrev dirLook : Look
+dirLook = look (0x0200 ∷ []) true (0x0200 ∷ filing.dir .kinds .stop) 0
 
--- the records of the files give their bytes
-pub files-rendered : (ns : List Name) (x : card.files ns .Of) → card.files ns .Meets x → rDirectories ns (card.files ns .book x) ≡ card.files ns .bytes x
-files-rendered ns x m = directories-is ns (card.files ns .book x) ∙ ap {B = List ℕ} (λ g. g .bytes) (rw append-nil at (files-renders ns .renders x m [] tt))
+dir-framed : Renders card.framedDir (rFramed 5 [] rDir) (elemLook (filing.dir .kinds))
+unfolding rDir layouts.template layouts.discretionary layouts.pathFrom
+dir-framed = with-renders {P = framed 5 [] card.templates} (λ x. length (card.templates .bytes x) ≤ 16383) (framed-renders 5 [] tt (filing.dir .lawful filing.dir-fine .renders))
+
+dir-renders : Renders card.efDir (when (0x0200 ∷ []) (rFramed 5 [] rDir)) dirLook
+unfolding layouts.template layouts.discretionary layouts.pathFrom
+dir-renders = possibly-renders card.framedDir tt dir-framed
 
 -- EF.OD in its record, and then the files of these names
 abbrev tail : List Name → Part
@@ -138,68 +136,116 @@ unfolding layouts.cia layouts.info
 cia-apart = tt
 
 -- what follows CIAInfo
-tail-renders : (ns : List Name) → Renders (tail ns) (rFramed 2 [] rOd next rFiles ns) tailLook
+tail-renders : (ns : List Name) → Renders (tail ns) (rFramed 2 [] rOd next rDirectories ns) tailLook
 tail-renders ns = and-renders {P = framed 2 [] card.od} {Q = card.files ns} od-framed (files-renders ns) od-apart
 
 -- CIAInfo and what follows it
-whole-renders : (ns : List Name) → Renders (framed 1 [] card.cia and tail ns) (rFramed 1 [] rCia next (rFramed 2 [] rOd next rFiles ns)) (seqLook (elemLook (layouts.cia .kinds)) tailLook)
+whole-renders : (ns : List Name) → Renders (framed 1 [] card.cia and tail ns) (rFramed 1 [] rCia next (rFramed 2 [] rOd next rDirectories ns)) (seqLook (elemLook (layouts.cia .kinds)) tailLook)
 whole-renders ns = and-renders {P = framed 1 [] card.cia} {Q = tail ns} cia-framed (tail-renders ns) cia-apart
+
+-- and EF.DIR's first kind is none of those before it
+dir-apart : (ns : List Name) → T (avoids (dirLook .first) (seqLook (elemLook (layouts.cia .kinds)) tailLook .stop))
+unfolding layouts.cia layouts.info entries.object layouts.insides
+dir-apart ns = tt
+
+-- all of a book, in its order
+abbrev allLook : Look
+allLook = seqLook (seqLook (elemLook (layouts.cia .kinds)) tailLook) dirLook
+
+all-renders : (ns : List Name) → Renders ((framed 1 [] card.cia and tail ns) and card.efDir) ((rFramed 1 [] rCia next (rFramed 2 [] rOd next rDirectories ns)) next when (0x0200 ∷ []) (rFramed 5 [] rDir)) allLook
+all-renders ns = and-renders {P = framed 1 [] card.cia and tail ns} {Q = card.efDir} (whole-renders ns) dir-renders (dir-apart ns)
+
+-- a card as these
+abbrev all : (c : Card) → ((framed 1 [] card.cia and tail (card.namesOf (c .main))) and card.efDir) .Of
+all c = ((c .info, (c .main, c .dirs)), c .dir)
+
+abbrev allMeet : (c : Card) → Meets c → ((framed 1 [] card.cia and tail (card.namesOf (c .main))) and card.efDir) .Meets (all c)
+allMeet c m = ((m .info, (m .main, m .dirs)), m .dir)
 
 -- four bytes of book for each of the dump's are enough
 pub card-bound : (c : Card) → Meets c → size (bookOf c) ≤ 4 * length (dumpOf c)
-card-bound c m = omega (arith, whole-renders (card.namesOf (c .main)) .bound (c .info, (c .main, c .dirs)) (m .info, (m .main, m .dirs)))
+card-bound c m =
+    let w = recordBytes 1 (card.cia .bytes (c .info)) ++ (recordBytes 2 (card.od .bytes (c .main)) ++ card.files (card.namesOf (c .main)) .bytes (c .dirs)) in
+    omega (arith, all-renders (card.namesOf (c .main)) .bound (all c) (allMeet c m), length-append w (card.efDir .bytes (c .dir)), length-append (card.efDir .bytes (c .dir)) w)
 
 -- and the records fit a book
 pub card-laid : (c : Card) → Meets c → Laid (length (dumpOf c)) (bookOf c)
-card-laid c m = whole-renders (card.namesOf (c .main)) .laid (c .info, (c .main, c .dirs)) (m .info, (m .main, m .dirs)) (length (dumpOf c)) (omega arith)
+card-laid c m =
+    let w = recordBytes 1 (card.cia .bytes (c .info)) ++ (recordBytes 2 (card.od .bytes (c .main)) ++ card.files (card.namesOf (c .main)) .bytes (c .dirs)) in
+    all-renders (card.namesOf (c .main)) .laid (all c) (allMeet c m) (length (dumpOf c)) (omega (arith, length-append w (card.efDir .bytes (c .dir)), length-append (card.efDir .bytes (c .dir)) w))
 
 -- a card is rendered part by part
-render-is : (bs os ds : List Rec) (a b d : List ℕ) (ns : List Name) → rCia (bs ++ (os ++ ds)) ≡ gives a (os ++ ds) → rOd (os ++ ds) ≡ gives b ds → files.namesOf os ≡ ns → rDirectories ns ds ≡ d →
-    render (bs ++ (os ++ ds)) ≡ recordBytes 1 a ++ (recordBytes 2 b ++ d)
+render-is : (bs os ds es : List Rec) (a b d x : List ℕ) (ns : List Name) → rCia (bs ++ (os ++ (ds ++ es))) ≡ gives a (os ++ (ds ++ es)) → rOd (os ++ (ds ++ es)) ≡ gives b (ds ++ es) → files.namesOf os ≡ ns → rDirectories ns (ds ++ es) ≡ gives d es →
+    when (0x0200 ∷ []) (rFramed 5 [] rDir) es ≡ gives x [] → render ((bs ++ (os ++ ds)) ++ es) ≡ x ++ (recordBytes 1 a ++ (recordBytes 2 b ++ d))
 unfolding render framing
-render-is bs os ds a b d ns x y e z =
-    let u : used (os ++ ds) ds ≡ os = take-at os ds (length (os ++ ds) - length ds) (omega (arith, length-append os ds)) in
-    rw (x, y, u, e, z) refl
+render-is bs os ds es a b d x ns f g e h k =
+    let u : used (os ++ (ds ++ es)) (ds ++ es) ≡ os = take-at os (ds ++ es) (length (os ++ (ds ++ es)) - length (ds ++ es)) (omega (arith, length-append os (ds ++ es))) in
+    rw (append-assoc, append-assoc, f, g, u, e, h, k) refl
 
 -- what begins with other kinds begins with none of these
 fresh : (first stop : List ℕ) {e : Bool} {bs : List Rec} → Begins first e bs → T (avoids first stop) → Fresh stop bs
 fresh first stop {e} b a = rw append-nil at (begins-fresh first stop e [] b a (λ _. tt))
 
 module _ (c : Card) (m : Meets c) where
-  -- what follows CIAInfo's records is no more of them
-  after-cia : Fresh (layouts.cia .kinds .stop) (tail (card.namesOf (c .main)) .book (c .main, c .dirs))
-  after-cia = fresh (tailLook .first) (layouts.cia .kinds .stop) (tail-renders (card.namesOf (c .main)) .begins (c .main, c .dirs) (m .main, m .dirs)) cia-apart
+  abbrev ns : List Name
+  ns = card.namesOf (c .main)
 
-  -- nor what follows EF.OD's
-  after-od : Fresh (filing.od .kinds .stop) (card.files (card.namesOf (c .main)) .book (c .dirs))
-  after-od = fresh (filesLook .first) (filing.od .kinds .stop) (files-renders (card.namesOf (c .main)) .begins (c .dirs) (m .dirs)) od-apart
+  abbrev ds : List Rec
+  ds = card.files ns .book (c .dirs)
+
+  abbrev es : List Rec
+  es = card.efDir .book (c .dir)
+
+  -- what follows CIAInfo's records is no more of them, nor what follows EF.OD's, nor what follows the files'
+  dir-begins : Begins (0x0200 ∷ []) true es
+  dir-begins = dir-renders .begins (c .dir) (m .dir)
+
+  after-files : Fresh (filesLook .stop) es
+  unfolding entries.object layouts.insides
+  after-files = fresh (0x0200 ∷ []) (filesLook .stop) dir-begins tt
+
+  after-od : Fresh (filing.od .kinds .stop) (ds ++ es)
+  unfolding entries.object layouts.insides
+  after-od = begins-fresh (filesLook .first) (filing.od .kinds .stop) true es (files-renders ns .begins (c .dirs) (m .dirs)) od-apart (λ _. fresh (0x0200 ∷ []) (filing.od .kinds .stop) dir-begins tt)
+
+  after-cia : Fresh (layouts.cia .kinds .stop) (card.od .book (c .main) ++ (ds ++ es))
+  unfolding layouts.cia layouts.info
+  after-cia = rw (append-assoc (card.od .book (c .main)) ds es) at (begins-fresh (tailLook .first) (layouts.cia .kinds .stop) (tailLook .empty) es (tail-renders ns .begins (c .main, c .dirs) (m .main, m .dirs)) cia-apart (λ _. fresh (0x0200 ∷ []) (layouts.cia .kinds .stop) dir-begins tt))
 
 -- rendering a card's book gives its dump
 pub card-renders : (c : Card) → Meets c → render (bookOf c) ≡ dumpOf c
 unfolding rOd
 card-renders c m =
-    let ns = card.namesOf (c .main) in
-    let ds = card.files ns .book (c .dirs) in
-    render-is (card.cia .book (c .info)) (card.od .book (c .main)) ds (card.cia .bytes (c .info)) (card.od .bytes (c .main)) (card.files ns .bytes (c .dirs)) ns
-    (layouts.cia .lawful layouts.cia-fine .renders .renders (c .info) (m .info) (card.od .book (c .main) ++ ds) (after-cia c m))
-    (filing.od .lawful filing.od-fine .renders .renders (c .main) (m .main) ds (after-od c m)) (od-names (c .main)) (files-rendered ns (c .dirs) (m .dirs))
+    render-is (card.cia .book (c .info)) (card.od .book (c .main)) (ds c m) (es c m) (card.cia .bytes (c .info)) (card.od .bytes (c .main)) (card.files (ns c m) .bytes (c .dirs)) (card.efDir .bytes (c .dir)) (ns c m)
+    (layouts.cia .lawful layouts.cia-fine .renders .renders (c .info) (m .info) (card.od .book (c .main) ++ (ds c m ++ es c m)) (after-cia c m))
+    (filing.od .lawful filing.od-fine .renders .renders (c .main) (m .main) (ds c m ++ es c m) (after-od c m)) (od-names (c .main))
+    (files-renders (ns c m) .renders (c .dirs) (m .dirs) (es c m) (after-files c m))
+    (rw (append-nil (card.efDir .book (c .dir))) at (dir-renders .renders (c .dir) (m .dir) [] tt))
 
 -- the files of EF.OD
 abbrev filesOf : card.od .Of → Part
 filesOf o = card.files (card.namesOf o)
 
--- two cards are equal where CIAInfo, EF.OD and the records of the files are
-same-card : (i : card.cia .Of) (o p : card.od .Of) → o ≡ p → (x : filesOf o .Of) (y : filesOf p .Of) → filesOf o .Meets x → filesOf p .Meets y → filesOf o .book x ≡ filesOf p .book y →
-    _≡_ {A = Card} (record { info = i; main = o; dirs = x }) (record { info = i; main = p; dirs = y })
-same-card i o p e x =
-    subst (λ (v : card.od .Of). (y : filesOf v .Of) → filesOf o .Meets x → filesOf v .Meets y → filesOf o .book x ≡ filesOf v .book y → _≡_ {A = Card} (record { info = i; main = o; dirs = x }) (record { info = i; main = v; dirs = y })) e
-    (λ y m n b. ap (λ (z : filesOf o .Of). record { info = i; main = o; dirs = z }) (files-renders (card.namesOf o) .tells x y m n b))
+-- two cards are equal where EF.DIR, CIAInfo, EF.OD and the records of the files are
+same-card : (d : card.efDir .Of) (i : card.cia .Of) (o p : card.od .Of) → o ≡ p → (x : filesOf o .Of) (y : filesOf p .Of) → filesOf o .Meets x → filesOf p .Meets y → filesOf o .book x ≡ filesOf p .book y →
+    _≡_ {A = Card} (record { dir = d; info = i; main = o; dirs = x }) (record { dir = d; info = i; main = p; dirs = y })
+same-card d i o p e x =
+    subst (λ (v : card.od .Of). (y : filesOf v .Of) → filesOf o .Meets x → filesOf v .Meets y → filesOf o .book x ≡ filesOf v .book y → _≡_ {A = Card} (record { dir = d; info = i; main = o; dirs = x }) (record { dir = d; info = i; main = v; dirs = y })) e
+    (λ y m n b. ap (λ (z : filesOf o .Of). record { dir = d; info = i; main = o; dirs = z }) (files-renders (card.namesOf o) .tells x y m n b))
+
+-- the records of the files are told from what follows them
+same-files : (o p : card.od .Of) → o ≡ p → (x : filesOf o .Of) (y : filesOf p .Of) → filesOf o .Meets x → filesOf p .Meets y → (v w : List Rec) → Fresh (filesLook .stop) v → Fresh (filesLook .stop) w → filesOf o .book x ++ v ≡ filesOf p .book y ++ w →
+    (filesOf o .book x ≡ filesOf p .book y) × (v ≡ w)
+same-files o p e x =
+    subst (λ (u : card.od .Of). (y : filesOf u .Of) → filesOf o .Meets x → filesOf u .Meets y → (v w : List Rec) → Fresh (filesLook .stop) v → Fresh (filesLook .stop) w → filesOf o .book x ++ v ≡ filesOf u .book y ++ w → (filesOf o .book x ≡ filesOf u .book y) × (v ≡ w)) e
+    (λ y m n v w f g b. let t = told {P = filesOf o} (files-renders (card.namesOf o)) x y m n v w f g b in (ap (filesOf o .book) (t .0), t .1))
 
 -- a book has one card
 pub one-card : (c e : Card) → Meets c → Meets e → bookOf c ≡ bookOf e → c ≡ e
 one-card c e m n z =
-    let v = filesOf (c .main) .book (c .dirs) in
-    let w = filesOf (e .main) .book (e .dirs) in
-    let a = told {P = framed 1 [] card.cia} cia-framed (c .info) (e .info) (m .info) (n .info) (card.od .book (c .main) ++ v) (card.od .book (e .main) ++ w) (after-cia c m) (after-cia e n) z in
-    let b = told {P = framed 2 [] card.od} od-framed (c .main) (e .main) (m .main) (n .main) v w (after-od c m) (after-od e n) (a .1) in
-    same-card (c .info) (c .main) (e .main) (b .0) (c .dirs) (e .dirs) (m .dirs) (n .dirs) (b .1) ∙ ap (λ (i : card.cia .Of). record { info = i; main = e .main; dirs = e .dirs }) (a .0)
+    let f : (x : Card) → bookOf x ≡ card.cia .book (x .info) ++ (card.od .book (x .main) ++ (filesOf (x .main) .book (x .dirs) ++ card.efDir .book (x .dir))) = λ x. rw (append-assoc, append-assoc) refl in
+    let a = told {P = framed 1 [] card.cia} cia-framed (c .info) (e .info) (m .info) (n .info) (card.od .book (c .main) ++ (ds c m ++ es c m)) (card.od .book (e .main) ++ (ds e n ++ es e n)) (after-cia c m) (after-cia e n) (sym (f c) ∙ z ∙ f e) in
+    let b = told {P = framed 2 [] card.od} od-framed (c .main) (e .main) (m .main) (n .main) (ds c m ++ es c m) (ds e n ++ es e n) (after-od c m) (after-od e n) (a .1) in
+    let d = same-files (c .main) (e .main) (b .0) (c .dirs) (e .dirs) (m .dirs) (n .dirs) (es c m) (es e n) (after-files c m) (after-files e n) (b .1) in
+    let x : c .dir ≡ e .dir = dir-renders .tells (c .dir) (e .dir) (m .dir) (n .dir) (d .1) in
+    same-card (c .dir) (c .info) (c .main) (e .main) (b .0) (c .dirs) (e .dirs) (m .dirs) (n .dirs) (d .0) ∙ ap (λ (i : card.cia .Of). record { dir = c .dir; info = i; main = e .main; dirs = e .dirs }) (a .0) ∙ ap (λ (i : card.efDir .Of). record { dir = i; info = e .info; main = e .main; dirs = e .dirs }) x

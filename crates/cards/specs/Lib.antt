@@ -1,7 +1,7 @@
 pub mod Card
+pub mod Blocks
 pub mod CardKinds
 pub mod CardRender
-pub mod Blocks
 pub mod OnceLaws
 pub mod FrameLaws
 pub mod PartLaws
@@ -11,3 +11,5 @@ pub mod DumpLaws
 pub mod WriteLaws
 pub mod Demand2
 pub mod CardExample
+pub mod Without
+pub mod Flags

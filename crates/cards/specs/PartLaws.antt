@@ -12,12 +12,12 @@ use Rattle.rules.specs.Parts.{inside}
 use Rattle.rules.specs.Files as files
 use Rattle.rules.specs.Grammar.{Part, total, flat}
 use Rattle.rules.specs.GrammarLaws.{close, Facts, BodyLaw, PlainBody, inside-law}
-use Rattle.rules.specs.ItemLaws.{recount-body}
+use Rattle.rules.specs.ItemLaws.{recount-body, total-none}
 use Rattle.rules.specs.ConditionLaws.{total-length}
 use Rattle.rules.specs.Layouts.{cia-fine}
 use Rattle.rules.specs.Layouts as layouts
 use Rattle.rules.specs.Entries as entries
-use Rattle.rules.specs.FileLayouts.{od-fine, directory-fine}
+use Rattle.rules.specs.FileLayouts.{od-fine, directory-fine, dir-fine}
 use Rattle.rules.specs.FileLayouts as filing
 use Rattle.cards.specs.Card as card
 use Rattle.cards.specs.Card.{under, inEntry}
@@ -48,6 +48,11 @@ module _ (s : List ℕ) (bytes : Bytes s) (small : length s ≤ 32768) where
   pub od-law : BodyLaw s (inside (files.od s)) card.od (λ x. length (flat inEntry (x .0))) 0 128
   unfolding files.od
   od-law = recount-body (λ x. length (flat inEntry (x .0))) (λ x. total-flat entries.inEntry inEntry count-entry (x .0)) (filing.od .lawful od-fine .exact s bytes small 0 (omega arith))
+
+  -- EF.DIR
+  pub dir-law : BodyLaw s (inside (files.dir s)) card.templates (λ _. 0) 0 0
+  unfolding files.dir
+  dir-law = recount-body (λ _. 0) (λ x. total-none (x .0)) (filing.dir .lawful dir-fine .exact s bytes small 0 (omega arith))
 
   -- a directory file
   pub directory-law : (t k : ℕ) → k ≤ 128 → BodyLaw s (inside (files.directory s t k)) (card.directory t) (λ x. length (under t (x .0))) k 128

@@ -57,7 +57,7 @@ module _ (s : List ℕ) (entry at x e : ℕ) where
   unfolding namedPath
   named-long a o h i = rw (le-leb 1 (e - x) h, lt-leb (e - x) 64 i) (fell refl)
 
-  pub named-put : {a b : List ℕ} {o q : ℕ} → 1 ≤ e - x → e - x ≤ 64 → at + 2 ≤ x → x ≤ e → o ≤ 8 * at → q ≡ o + 6 + (e - x) → Put a b o q (recordBytes 0x0110 (entry ∷ 0 ∷ slice x e s)) → Did a b o x e (namedPath s entry at x e) (Took e q)
+  pub named-put : {a b : List ℕ} {o q : ℕ} → 1 ≤ e - x → e - x ≤ 64 → at + 2 ≤ x → x ≤ e → o ≤ 8 * at + 131072 → q ≡ o + 6 + (e - x) → Put a b o q (recordBytes 0x0110 (entry ∷ 0 ∷ slice x e s)) → Did a b o x e (namedPath s entry at x e) (Took e q)
   unfolding namedPath
   named-put h i j k l n f = rw (le-leb 1 (e - x) h, le-leb (e - x) 64 i) (did-one 0x0110 (entry ∷ 0 ∷ slice x e s) x e f k (omega arith))
 
@@ -67,7 +67,7 @@ module _ (s : List ℕ) (t at x e : ℕ) {r : Run} (k : r ≡ innerRun s t x e) 
   unfolding sealed
   unknown-bad a o q = rw (sym k ∙ q) (fell refl)
 
-  pub unknown-put : {a b : List ℕ} {o p i : ℕ} → r ≡ Ends i → at + 2 ≤ x → x ≤ e → o ≤ 8 * at → p ≡ o + 6 + (e - at) → Put a b o p (recordBytes 0x0110 (t ∷ 2 ∷ slice at e s)) → Did a b o x e (sealed s 0x0110 (t ∷ 2 ∷ []) t at x e) (Took e p)
+  pub unknown-put : {a b : List ℕ} {o p i : ℕ} → r ≡ Ends i → at + 2 ≤ x → x ≤ e → o ≤ 8 * at + 131072 → p ≡ o + 6 + (e - at) → Put a b o p (recordBytes 0x0110 (t ∷ 2 ∷ slice at e s)) → Did a b o x e (sealed s 0x0110 (t ∷ 2 ∷ []) t at x e) (Took e p)
   unfolding sealed
   unknown-put q h i l n f = rw (sym k ∙ q) (did-one 0x0110 (t ∷ 2 ∷ slice at e s) x e f i (omega arith))
 
@@ -186,11 +186,11 @@ pub record Listing (s a b u v : List ℕ) (end at o k n p again : ℕ) : Type 0 
   pub few : k ≤ 128
   pub low : at ≤ n
   pub high : n ≤ end
-  pub small : p ≤ 8 * n
+  pub small : p ≤ 8 * n + 131072
   pub same : length b ≡ length a
   pub kept : length v ≡ length u
 
-pub entries-start : {s a : List ℕ} {end at o : ℕ} (u : List ℕ) → Ready s a end at o → at ≤ end → o ≤ 8 * at → Listing s a a u u end at o 0 at o 0
+pub entries-start : {s a : List ℕ} {end at o : ℕ} (u : List ℕ) → Ready s a end at o → at ≤ end → o ≤ 8 * at + 131072 → Listing s a a u u end at o 0 at o 0
 unfolding going-none namesOf
 entries-start {s} {a} {end} {at} {o} u r i l = record {
   ready = r;
@@ -305,7 +305,7 @@ module _ {s a b u v : List ℕ} {o at end : ℕ} {w : Entries} (d : DidEntries s
     pub od-high : n ≤ end
     od-high = objects-high (d .objects) (ap objectsOf z)
 
-    pub od-small : q ≤ 8 * n
+    pub od-small : q ≤ 8 * n + 131072
     od-small = objects-small (d .objects) (ap objectsOf z)
 
     module _ {c : List ℕ} {x : Part} (e : Did b c q n end (fill s 0x0107 end n) x) where

@@ -73,7 +73,7 @@ module _ {s : List ℕ} {b end at i : ℕ} (h : Same s b end at i) where
       record { bad = λ m. absurd (omega arith); all = λ _. h .rest ∙ rw (y, z) refl }
 
 module _ (s : List ℕ) (kind end at : ℕ) where
-  pub fill-none : (a : List ℕ) (o : ℕ) → end ≤ at → at ≤ end → o ≤ 8 * at → Did a a o at end (fill s kind end at) (Took at o)
+  pub fill-none : (a : List ℕ) (o : ℕ) → end ≤ at → at ≤ end → o ≤ 8 * at + 131072 → Did a a o at end (fill s kind end at) (Took at o)
   unfolding fill
   fill-none a o h i l = rw (le-ltb at end h) (did-none a o at end i l)
 
@@ -82,7 +82,7 @@ module _ (s : List ℕ) (kind end at : ℕ) where
     unfolding fill
     fill-differs a o l = rw (lt-ltb at end h, w .bad l) (fell refl)
 
-    pub fill-put : {a b : List ℕ} {o q : ℕ} → end ≤ i → o ≤ 8 * at → q ≡ o + 7 → Put a b o q (recordBytes kind (getD s at 0 ∷ le16 (end - at))) → Did a b o at end (fill s kind end at) (Took end q)
+    pub fill-put : {a b : List ℕ} {o q : ℕ} → end ≤ i → o ≤ 8 * at + 131072 → q ≡ o + 7 → Put a b o q (recordBytes kind (getD s at 0 ∷ le16 (end - at))) → Did a b o at end (fill s kind end at) (Took end q)
     unfolding fill
     fill-put l m n f = rw (lt-ltb at end h, w .all l) (did-one kind (getD s at 0 ∷ le16 (end - at)) at end f (omega arith) (omega arith))
 

@@ -64,11 +64,11 @@ pub record Objects (s : List ℕ) (x : Holder) (entry : ℕ) (a b u v : List ℕ
   pub few : j ≤ 128
   pub low : at ≤ n
   pub high : n ≤ end
-  pub small : p ≤ 8 * n
+  pub small : p ≤ 8 * n + 131072
   pub same : length b ≡ length a
   pub kept : length v ≡ length u
 
-pub objects-start : (s : List ℕ) (x : Holder) (entry : ℕ) (a u : List ℕ) (end at o k : ℕ) → k ≤ 128 → at ≤ end → o ≤ 8 * at → Objects s x entry a a u u end at o k k at o
+pub objects-start : (s : List ℕ) (x : Holder) (entry : ℕ) (a u : List ℕ) (end at o k : ℕ) → k ≤ 128 → at ≤ end → o ≤ 8 * at + 131072 → Objects s x entry a a u u end at o k k at o
 unfolding going-none
 objects-start s x entry a u end at o k h i l = record {
   going = going-none (moreOf s x) (itemOf s x entry k) a end at o k i l;

@@ -27,7 +27,7 @@ pub record Filled (s : List ℕ) (b end at r : ℕ) : Type 0 where
 
 -- the same of objects, the places of which are stored from k on in lent marks, which were u and are v
 pub data DidObjects (a b u v : List ℕ) (o at end k : ℕ) : Res → Many → Type 0 where
-  didObjects : {bs : List Rec} {ms : List ℕ} {n q j : ℕ} → Put a b o q (encode bs) → Put u v k j ms → at ≤ n → n ≤ end → q ≤ 8 * n → j ≤ 128 → DidObjects a b u v o at end k (took bs ms n) (many.Took n q j)
+  didObjects : {bs : List Rec} {ms : List ℕ} {n q j : ℕ} → Put a b o q (encode bs) → Put u v k j ms → at ≤ n → n ≤ end → q ≤ 8 * n + 131072 → j ≤ 128 → DidObjects a b u v o at end k (took bs ms n) (many.Took n q j)
   fellObjects : {f : Fault} {p : ℕ} → length b ≡ length a → length v ≡ length u → DidObjects a b u v o at end k (fails f p) (many.Fails f p)
 
 -- 12: `again` is the place of the first entry of EF.OD that names a path once more, or 0, and all the paths ps differ

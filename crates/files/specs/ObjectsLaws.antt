@@ -91,10 +91,10 @@ module _ {a b u v : List ℕ} {o at end k : ℕ} {w : Res} {r : Many} (d : DidOb
         go : {w : Res} → DidObjects a b u v o at end k w (many.Took n q j) → n ≤ end
         go (didObjects _ _ _ i _ _) = i
 
-    pub objects-small : q ≤ 8 * n
+    pub objects-small : q ≤ 8 * n + 131072
     objects-small = go was
       where
-        go : {w : Res} → DidObjects a b u v o at end k w (many.Took n q j) → q ≤ 8 * n
+        go : {w : Res} → DidObjects a b u v o at end k w (many.Took n q j) → q ≤ 8 * n + 131072
         go (didObjects _ _ _ _ i _) = i
 
     pub objects-few : j ≤ 128

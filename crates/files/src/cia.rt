@@ -1,5 +1,5 @@
-use crate::fill::fill;
-use crate::fill::goes_on;
+use crate::fills::fill;
+use crate::fills::goes_on;
 use elements::Fault;
 use elements::Head;
 use elements::header;

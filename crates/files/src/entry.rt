@@ -1,6 +1,6 @@
 use crate::answer::Entries;
-use crate::fill::fill;
-use crate::fill::goes_on;
+use crate::fills::fill;
+use crate::fills::goes_on;
 use crate::holder::Holder;
 use crate::holder::objects;
 use crate::scan::first_again;

@@ -1,5 +1,5 @@
-use crate::fill::fill;
-use crate::fill::goes_on;
+use crate::fills::fill;
+use crate::fills::goes_on;
 use elements::Fault;
 use objects::Many;
 use objects::Part;
@@ -91,7 +91,7 @@ fn opened(
     o: usize,
     marks: &mut [u32],
 ) -> Many
-    requires { ⌜ (k ≤ 128) × (o + 4 ≤ 8 * at) × InContainer (now s) end at o ⌝ }
+    requires { ⌜ (k ≤ 128) × (o + 4 ≤ 8 * at + 131072) × InContainer (now s) end at o ⌝ }
     ensures { λ r. ⌜ DidObjects (now (out .entry)) (now (out .exit)) (now (marks .entry)) (now (marks .exit)) o at end k (openedBy (now (s .entry)) x kind entry k end at) r ⌝ }
 {
     let q = put_bare(out, o, kind);
@@ -111,7 +111,7 @@ pub fn held(
     o: usize,
     marks: &mut [u32],
 ) -> Many
-    requires { ⌜ (k ≤ 128) × (o + 4 ≤ 8 * at) × InContainer (now s) end at o ⌝ }
+    requires { ⌜ (k ≤ 128) × (o + 4 ≤ 8 * at + 131072) × InContainer (now s) end at o ⌝ }
     ensures { λ r. ⌜ DidObjects (now (out .entry)) (now (out .exit)) (now (marks .entry)) (now (marks .exit)) o at end k (filledUp (now (s .entry)) x kind entry k end at) r ⌝ }
 {
     match opened(s, x, kind, entry, k, end, at, out, o, marks) {

@@ -2,13 +2,15 @@
 mod answer;
 mod cia;
 mod entry;
-mod fill;
+mod fills;
 mod holder;
 mod scan;
 
 pub use answer::Entries;
 pub use cia::info;
 pub use entry::object_directory;
+pub use fills::fill;
+pub use fills::goes_on;
 pub use holder::Holder;
 pub use holder::held;
 pub use scan::Clash;

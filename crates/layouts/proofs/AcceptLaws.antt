@@ -13,8 +13,8 @@ use Rattle.elements.specs.Lists.{Bytes}
 use Rattle.elements.specs.PutLaws.{put-length, put-upto}
 use Rattle.rules.specs.declared.outcome.Outcome.{Outcome}
 use Rattle.rules.specs.declared.outcome.Outcome.the-variants.{Accepted, Refused}
-use Rattle.writer.specs.declared.made.Made.{Made}
-use Rattle.writer.specs.declared.made.Made.the-variants.{Took, Long}
+use Rattle.makers.specs.declared.made.Made.{Made}
+use Rattle.makers.specs.declared.made.Made.the-variants.{Took, Long}
 use Rattle.layouts.specs.declared.accept.Candidate.{Candidate}
 use Rattle.layouts.specs.declared.accept.Candidate.the-variants.{Dump, None}
 use Rattle.rules.specs.Files.{Answer, equal, readDump}
@@ -23,7 +23,7 @@ use Rattle.rules.specs.Render.{render}
 use Rattle.rules.specs.Write.{written, noBook, confirmed, writeDump}
 use Rattle.cards.specs.Demand2.{refused-if-none, none-if-refused, written-then-read, book-most}
 use Rattle.reader.specs.Stages.{Reads, reads, falls}
-use Rattle.writer.specs.Making.{Fitted, fits, beyond}
+use Rattle.writer.specs.MakingFiles.{Fitted, fits, beyond}
 use Rattle.layouts.specs.Accept.{confirming, Confirms, Tried, holds, none, BookTold}
 
 -- what reading the candidate says

@@ -1,7 +1,7 @@
+use makers::Made;
 use reader::read_into;
 use rules::Outcome;
 use rules::same_bytes;
-use writer::Made;
 use writer::render_into;
 ghost use Prim.Native.Nat.{_≤_};
 ghost use mathlib.Core.Path.{_≡_};

@@ -4,7 +4,7 @@ use mathlib.Core.Path.{_≡_, refl}
 use mathlib.Core.Logic.{_⊎_, inl, inr}
 use mathlib.Core.Bool.{Bool, true, false}
 use native.Mathlib.Omega.{arith}
-use lib.Dec.{eqb}
+use lib.Dec.{leb, eqb}
 use borrow.Author.Tests.{ne-eqb, le-leb, lt-leb}
 use Rattle.rules.specs.Blocks.{closing}
 use Rattle.links.specs.Links.{certifying, states, answering, idKind}
@@ -23,8 +23,8 @@ module _ (k : ℕ) where
   pub closing-linear : k ≡ 0x0119 → true ≡ closing k
   closing-linear e = rw e refl
 
-  pub closing-not : ((k ≡ 0x0107) ⊎ ((k ≡ 0x0110) ⊎ (k ≡ 0x0120)) → ⊥) → ((k ≡ 0x0118) ⊎ (k ≡ 0x011a) → ⊥) → (k ≡ 0x0119 → ⊥) → false ≡ closing k
-  closing-not n m l = rw (ne-eqb k 0x0120 (λ e. n (inr (inr e))), ne-eqb k 0x0110 (λ e. n (inr (inl e))), ne-eqb k 0x0107 (λ e. n (inl e)), ne-eqb k 0x0118 (λ e. m (inl e)), ne-eqb k 0x0119 l, ne-eqb k 0x011a (λ e. m (inr e))) refl
+  pub closing-other : ((k ≡ 0x0107) ⊎ ((k ≡ 0x0110) ⊎ (k ≡ 0x0120)) → ⊥) → ((k ≡ 0x0118) ⊎ (k ≡ 0x011a) → ⊥) → (k ≡ 0x0119 → ⊥) → leb 0x0200 k ≡ closing k
+  closing-other n m l = rw (ne-eqb k 0x0120 (λ e. n (inr (inr e))), ne-eqb k 0x0110 (λ e. n (inr (inl e))), ne-eqb k 0x0107 (λ e. n (inl e)), ne-eqb k 0x0118 (λ e. m (inl e)), ne-eqb k 0x0119 l, ne-eqb k 0x011a (λ e. m (inr e))) refl
 
 -- the link that a record states
 module _ (entry : ℕ) {kind : ℕ} where

@@ -8,6 +8,7 @@ pub mod FindingLaws
 pub mod Chains
 pub mod Serving
 pub mod Told
+pub mod SameList
 pub mod Demand3
 pub mod Agreement
 pub mod Refusals

@@ -6,7 +6,7 @@ use mathlib.Core.List.{List, [], _∷_, _++_, map, List·Memᴰ, List·Memᴰ·h
 use mathlib.Core.Bool.{Bool, true, false, _||_, true≢false}
 use native.Mathlib.Omega.{arith}
 use lib.ListN.{getD}
-use lib.Dec.{eqb}
+use lib.Dec.{leb, eqb}
 use Rattle.elements.specs.Choice.{choose}
 use Rattle.elements.specs.Sealed.{among}
 use Rattle.rules.specs.Reading.{Rec}
@@ -63,11 +63,11 @@ replies-rise l i p (j ∷ js) c = rows-rise l i p (j ∷ js) c
 
 -- a record that closes nothing starts no object
 pub not-closing : (k : ℕ) → closing k ≡ false → eqb k 0x0120 ≡ false
-not-closing k e = go (eqb k 0x0120) (among k (0x0110 ∷ 0x0107 ∷ 0x0118 ∷ 0x0119 ∷ 0x011a ∷ [])) e
+not-closing k e = go (eqb k 0x0120) (among k (0x0110 ∷ 0x0107 ∷ 0x0118 ∷ 0x0119 ∷ 0x011a ∷ [])) (leb 0x0200 k) e
   where
-    go : (t u : Bool) → (t || u) ≡ false → t ≡ false
-    go true u z = absurd (true≢false z)
-    go false u z = refl
+    go : (t u v : Bool) → ((t || u) || v) ≡ false → t ≡ false
+    go true u v z = absurd (true≢false z)
+    go false u v z = refl
 
 module _ (os : List Object) where
   stated-rise : (i entry : ℕ) (h : Held) → Rises (recordRows os i entry h)

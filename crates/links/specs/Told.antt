@@ -77,7 +77,7 @@ module _ (x : Card) (meets : Meets x) (bytes : Bytes (dumpOf x)) where
   reads : readDump (dumpOf x) ≡ accepted (bookOf x)
   reads = accepted-cards (dumpOf x) (bookOf x) bytes .1 (x, meets, refl, refl)
 
-  gives : {a c : List ℕ} {r : Outcome} → ListTold (encode (bookOf x)) a c r → served r c ≡ giving (listed (links (bookOf x))) a
+  pub gives : {a c : List ℕ} {r : Outcome} → ListTold (encode (bookOf x)) a c r → served r c ≡ giving (listed (links (bookOf x))) a
   unfolding listing
   gives t = t .is ∙ rw (read-then-written (record { bytes = bytes; records = bookOf x; reads = reads; book = refl }), records-of (dumpOf x) (bookOf x) bytes reads) refl
 

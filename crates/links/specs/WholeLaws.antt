@@ -1,7 +1,7 @@
 -- The objects of a card's book are the card's, in turn, each whole (demand 3).
 use Prim.Native.Nat.{ℕ, suc, _≤_}
 use mathlib.Core.Path.{_≡_, refl, ap, _∙_}
-use mathlib.Core.List.{List, [], _∷_, _++_, List·Memᴰ, List·Memᴰ·head, List·Memᴰ·tail, List·Memᴰ·cases-cons}
+use mathlib.Core.List.{List, [], _∷_, _++_, append-assoc, List·Memᴰ, List·Memᴰ·head, List·Memᴰ·tail, List·Memᴰ·cases-cons}
 use mathlib.Core.Logic.{⊎-elim}
 use mathlib.Core.Bool.{Bool, true, false, not}
 use native.Mathlib.Omega.{arith}
@@ -43,7 +43,7 @@ pub data WholeObjects : List Object → List card.Object → Type 0 where
   one-more : {o : Object} {os : List Object} {x : card.Object} {xs : List card.Object} → WholeObject o x → WholeObjects os xs → WholeObjects (o ∷ os) (x ∷ xs)
 
 -- a test that fails
-untrue : (t : Bool) → T (not t) → t ≡ false
+pub untrue : (t : Bool) → T (not t) → t ≡ false
 untrue t h = not-true t (is-true (not t) h)
 
 -- the first of records that close no object, and those behind it
@@ -66,7 +66,7 @@ held-behind at (r ∷ rs) bs h f =
     rw (t .0, held-behind (past at r) rs bs (t .1) f) refl
 
 -- and nothing of the blocks behind them, since these begin with a record that closes an object
-held-none : {xs : List card.Object} {bs : List Rec} → Blocks xs bs → (at : ℕ) → heldFrom at bs ≡ []
+pub held-none : {xs : List card.Object} {bs : List Rec} → Blocks xs bs → (at : ℕ) → heldFrom at bs ≡ []
 unfolding heldFrom
 held-none nothing at = refl
 held-none (other kind p h b) at = rw (is-true (closing kind) (all-both (closing kind) (not (eqb kind 0x0120)) h .0)) refl
@@ -84,7 +84,9 @@ whole-blocks (whole {os = xs} {rs = bs} x b) at =
     (objects-behind (λ os. WholeObjects os xs) q (behind x) bs (behind-inner x) (λ i. whole-blocks b i))
 
 pub whole-objects : (c : Card) → WholeObjects (objectsOf (bookOf c)) (card.objectsOf c)
-whole-objects c = objects-behind (λ os. WholeObjects os (card.objectsOf c)) 0 (card.cia .book (c .info)) (card.od .book (c .main) ++ card.files (card.namesOf (c .main)) .book (c .dirs)) (info-inner (c .info)) (whole-blocks (card-blocks c))
+whole-objects c =
+    let others = card.od .book (c .main) ++ card.files (card.namesOf (c .main)) .book (c .dirs) in
+    rw (append-assoc (card.cia .book (c .info)) others (card.efDir .book (c .dir))) (objects-behind (λ os. WholeObjects os (card.objectsOf c)) 0 (card.cia .book (c .info)) (others ++ card.efDir .book (c .dir)) (info-inner (c .info)) (whole-blocks (card-blocks c)))
 
 -- as many as the card has
 same-length : {os : List Object} {xs : List card.Object} → WholeObjects os xs → length os ≡ length xs

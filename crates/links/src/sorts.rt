@@ -13,7 +13,8 @@ pub fn is_closing(kind: usize) -> bool
         // a transparent file, a record; a record file
         0x0118 | 0x011a => true,
         0x0119 => true,
-        _ => false,
+        // EF.DIR
+        _ => 0x0200 <= kind,
     }
 }
 

@@ -27,7 +27,7 @@ module _ (s : List ℕ) (at x e : ℕ) {r : Run} (k : r ≡ sealedRun 16 s [] x 
   unfolding layouts.class
   container-bad a o q = rw (sym k ∙ q) (fell refl)
 
-  pub container-put : {a b : List ℕ} {o p i : ℕ} → r ≡ Ends i → at + 2 ≤ x → x ≤ e → o ≤ 8 * at → p ≡ o + 4 + (e - x) → Put a b o p (recordBytes 0x0160 (slice x e s)) → Did a b o x e (classBody s Containers at x e) (Took e p)
+  pub container-put : {a b : List ℕ} {o p i : ℕ} → r ≡ Ends i → at + 2 ≤ x → x ≤ e → o ≤ 8 * at + 131072 → p ≡ o + 4 + (e - x) → Put a b o p (recordBytes 0x0160 (slice x e s)) → Did a b o x e (classBody s Containers at x e) (Took e p)
   unfolding layouts.class
   container-put q h i l n f = rw (sym k ∙ q) (did-one 0x0160 (slice x e s) x e f i (omega arith))
 

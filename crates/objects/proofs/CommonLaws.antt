@@ -77,14 +77,14 @@ pub record Ruling (s : List ℕ) (a b : List ℕ) (end at o n p : ℕ) : Type 0 
   pub k : ℕ
   pub going : Going toEnd (λ _. component s 0x30 Required (rule s)) a b end at o 0 k n p
 
-pub ruling-none : (s : List ℕ) (a : List ℕ) (end at o : ℕ) → at ≤ end → o ≤ 8 * at → Ruling s a a end at o at o
+pub ruling-none : (s : List ℕ) (a : List ℕ) (end at o : ℕ) → at ≤ end → o ≤ 8 * at + 131072 → Ruling s a a end at o at o
 ruling-none s a end at o h l = record { k = 0; going = going-none toEnd (λ _. component s 0x30 Required (rule s)) a end at o 0 h l }
 
 module _ {s : List ℕ} {a b : List ℕ} {end at o n p : ℕ} (h : Ruling s a b end at o n p) where
   pub ruling-high : n ≤ end
   ruling-high = h .going .high
 
-  pub ruling-small : p ≤ 8 * n
+  pub ruling-small : p ≤ 8 * n + 131072
   ruling-small = h .going .small
 
   module _ (l : n < end) {c : List ℕ} {w : Part} (d : Did b c p n end (component s 0x30 Required (rule s) end n) w) where

@@ -73,7 +73,7 @@ module _ (s : List ℕ) (at x e : ℕ) where
   unfolding identified
   identified-long a o h = rw (lt-leb (e - x) 255 h) (fell refl)
 
-  pub identified-put : {a b : List ℕ} {o p : ℕ} → e - x ≤ 255 → at + 2 ≤ x → x ≤ e → o ≤ 8 * at → p ≡ o + 4 + (e - x) → Put a b o p (recordBytes 0x0127 (slice x e s)) → Did a b o x e (identified s at x e) (Took e p)
+  pub identified-put : {a b : List ℕ} {o p : ℕ} → e - x ≤ 255 → at + 2 ≤ x → x ≤ e → o ≤ 8 * at + 131072 → p ≡ o + 4 + (e - x) → Put a b o p (recordBytes 0x0127 (slice x e s)) → Did a b o x e (identified s at x e) (Took e p)
   unfolding identified
   identified-put h i j l n f = rw (le-leb (e - x) 255 h) (did-one 0x0127 (slice x e s) x e f j (omega arith))
 
@@ -122,7 +122,7 @@ module _ (s : List ℕ) (levels k end at : ℕ) where
 
 -- ---- a condition of a sort
 module _ (s : List ℕ) (levels t at x e : ℕ) {y : Sort} where
-  pub as-always : {a b : List ℕ} {o p : ℕ} → y ≡ Always → at + 2 ≤ x → x ≤ e → o ≤ 8 * at → p ≡ o + 4 → Put a b o p (recordBytes 0x0126 []) → Did a b o x e (conditionAs s levels y t at x e) (Took e p)
+  pub as-always : {a b : List ℕ} {o p : ℕ} → y ≡ Always → at + 2 ≤ x → x ≤ e → o ≤ 8 * at + 131072 → p ≡ o + 4 → Put a b o p (recordBytes 0x0126 []) → Did a b o x e (conditionAs s levels y t at x e) (Took e p)
   unfolding conditionAs
   as-always z h i l n f = rw z (did-one 0x0126 [] x e f i (omega arith))
 
@@ -180,7 +180,7 @@ pub record Listing (s : List ℕ) (levels : ℕ) (a b : List ℕ) (end at o k n 
   pub going : Going toEnd (Inner s levels) a b end at o 0 k n p
   pub few : k ≤ n - at
 
-pub listing-none : (s : List ℕ) (levels : ℕ) (a : List ℕ) (end at o : ℕ) → at ≤ end → o ≤ 8 * at → Listing s levels a a end at o 0 at o
+pub listing-none : (s : List ℕ) (levels : ℕ) (a : List ℕ) (end at o : ℕ) → at ≤ end → o ≤ 8 * at + 131072 → Listing s levels a a end at o 0 at o
 listing-none s levels a end at o h l = record { going = going-none toEnd (Inner s levels) a end at o 0 h l; few = omega arith }
 
 pub listing-less : {w : Part} {end n r q : ℕ} → Forward n w → w ≡ Took r q → n < end → end - r < end - n

@@ -26,7 +26,7 @@ use Rattle.objects.specs.Did.{Did, fell, Stays}
 use Rattle.objects.specs.DidLaws.{did-none, did-one, did-as}
 
 module _ (s : List ℕ) (end at o : ℕ) where
-  pub ended-none : end ≤ at → at ≤ end → o ≤ 8 * at → Stays o at end (ended s end at) (Took at o)
+  pub ended-none : end ≤ at → at ≤ end → o ≤ 8 * at + 131072 → Stays o at end (ended s end at) (Took at o)
   unfolding ended
   ended-none h i l = record { is = λ x. rw (le-ltb at end h) (did-none x o at end i l) }
 
@@ -40,7 +40,7 @@ module _ (s : List ℕ) (end at o : ℕ) where
     ended-more q = record { is = λ x. rw (lt-ltb at end m, sym k ∙ q) (fell refl) }
 
 module _ (s : List ℕ) (kind : ℕ) (tags : List ℕ) (end at : ℕ) where
-  pub rest-none : (x : List ℕ) (o : ℕ) → end ≤ at → at ≤ end → o ≤ 8 * at → Did x x o at end (rest s kind tags end at) (Took at o)
+  pub rest-none : (x : List ℕ) (o : ℕ) → end ≤ at → at ≤ end → o ≤ 8 * at + 131072 → Did x x o at end (rest s kind tags end at) (Took at o)
   unfolding rest
   rest-none x o h i l = rw (le-ltb at end h) (did-none x o at end i l)
 
@@ -49,7 +49,7 @@ module _ (s : List ℕ) (kind : ℕ) (tags : List ℕ) (end at : ℕ) where
     unfolding rest
     rest-bad x o q = rw (lt-ltb at end m, sym k ∙ q) (fell refl)
 
-    pub rest-put : {a b : List ℕ} {o p i : ℕ} → r ≡ Ends i → o ≤ 8 * at → p ≡ o + 4 + (end - at) → Put a b o p (recordBytes kind (slice at end s)) → Did a b o at end (rest s kind tags end at) (Took end p)
+    pub rest-put : {a b : List ℕ} {o p i : ℕ} → r ≡ Ends i → o ≤ 8 * at + 131072 → p ≡ o + 4 + (end - at) → Put a b o p (recordBytes kind (slice at end s)) → Did a b o at end (rest s kind tags end at) (Took end p)
     unfolding rest
     rest-put q l n f = rw (lt-ltb at end m, sym k ∙ q) (did-one kind (slice at end s) at end f (omega arith) (omega arith))
 
@@ -65,7 +65,7 @@ module _ (s : List ℕ) (kind t at x e : ℕ) {r : Run} (k : r ≡ innerRun s t 
   unfolding sealed
   sealed-bad a o q = rw (sym k ∙ q) (fell refl)
 
-  pub sealed-put : {a b : List ℕ} {o p i : ℕ} → r ≡ Ends i → at + 2 ≤ x → x ≤ e → o ≤ 8 * at → p ≡ o + 4 + (e - at) → Put a b o p (recordBytes kind (slice at e s)) → Did a b o x e (sealed s kind [] t at x e) (Took e p)
+  pub sealed-put : {a b : List ℕ} {o p i : ℕ} → r ≡ Ends i → at + 2 ≤ x → x ≤ e → o ≤ 8 * at + 131072 → p ≡ o + 4 + (e - at) → Put a b o p (recordBytes kind (slice at e s)) → Did a b o x e (sealed s kind [] t at x e) (Took e p)
   unfolding sealed
   sealed-put q h i l n f = rw (sym k ∙ q) (did-one kind (slice at e s) x e f i (omega arith))
 

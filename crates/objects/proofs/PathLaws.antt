@@ -1,32 +1,30 @@
 -- A Path: its three components, and the rule that index and length stand both or neither.
-use Prim.Native.Nat.{ℕ, _<_}
+use Prim.Native.Nat.{ℕ, _+_, _≤_}
 use mathlib.Core.Path.{_≡_, refl, sym}
 use mathlib.Core.Bool.{Bool, true, false, _&&_, _||_, not}
-use mathlib.Core.List.{List, [], _∷_, _++_, append-nil}
+use mathlib.Core.List.{List, [], _∷_, _++_}
 use native.Mathlib.Omega.{arith}
 use lib.ListN.{length}
 use lib.Seq.{slice}
 use lib.Dec.{ltb, eqb}
 use borrow.Author.Tests.{eq-eqb, ne-eqb}
 use Rattle.elements.specs.declared.fault.Fault.{Fault}
-use Rattle.elements.specs.declared.fault.Fault.the-variants.{PathPair, Missing, NotDue}
+use Rattle.elements.specs.declared.fault.Fault.the-variants.{PathPair}
 use Rattle.elements.specs.declared.answer.Head.{Head}
 use Rattle.elements.specs.declared.answer.Head.the-variants.{At, No}
 use Rattle.elements.specs.Choice.{choose}
 use Rattle.elements.specs.ChoiceLaws.{by-choose}
 use Rattle.elements.specs.Header.{header}
-use Rattle.elements.specs.HeaderLaws.{header-in}
-use Rattle.elements.specs.Values.{value}
 use Rattle.objects.specs.declared.part.Part.{Part}
 use Rattle.objects.specs.declared.part.Part.the-variants.{Took, Fails}
-use Rattle.rules.specs.declared.table.Need.{Need}
-use Rattle.rules.specs.declared.table.Need.the-variants.{Required, Optional, Default}
 use Rattle.rules.specs.declared.table.Row.{Row}
-use Rattle.rules.specs.Reading.{Rec, rec, Res, took, fails, andThen}
-use Rattle.rules.specs.Parts.{Val, good, wrong, component, rowBody, components, ended, absent, due, judged, valued, surplus}
-use Rattle.rules.specs.Tables.{pathRows, efidOrPathRow, indexRow, lengthRow}
-use Rattle.rules.specs.Objects.{has, same, paired, path}
+use Rattle.rules.specs.Reading.{Rec, rec, Res, took, andThen}
+use Rattle.rules.specs.Parts.{component, rowBody, components, ended, surplus}
+use Rattle.rules.specs.declared.table.Sequence.{Sequence}
+use Rattle.rules.specs.Tables.{rowsOf, pathKind, pathRowsFrom, efidOrPathRow, indexRow, lengthRow}
+use Rattle.rules.specs.Objects.{has, same, paired, pathFrom}
 use Rattle.objects.specs.Did.{Did, did, fell, Stays, Paired}
+use Rattle.objects.specs.SeenLaws.{Seen, bad, gone, stood, seen, seen-at, then-none}
 use Rattle.objects.specs.DidLaws.{did-then, did-ends, did-fails, did-as, did-same}
 use Rattle.rules.specs.Layouts as layouts
 
@@ -44,37 +42,6 @@ module _ (at : ℕ) {i j : ℕ} where
 
     pub pair-both : {k : ℕ} (n v : ℕ) → (j ≡ k → ⊥) → Paired at i j k n v (Took n v)
     pair-both {k} n v l = record { is = rw (ne-eqb i j h, ne-eqb j k l) refl }
-
--- what a row's component answers: a refusal, nothing and the same place, or its record and a further place
-data Seen (kind at : ℕ) : Res → Type 0 where
-  bad : {f : Fault} {p : ℕ} → Seen kind at (fails f p)
-  gone : Seen kind at (took [] [] at)
-  stood : (p : List ℕ) {n : ℕ} → at < n → Seen kind at (took (rec kind p ∷ []) [] n)
-
-seen-absent : (kind at : ℕ) (need : Need) (f : Fault) (p : ℕ) → Seen kind at (absent need at (fails f p))
-seen-absent kind at Required f p = bad
-seen-absent kind at Optional f p = gone
-seen-absent kind at (Default d) f p = gone
-
-seen-value : (r : Row) (at e : ℕ) → at < e → (v : Val) → Seen (r .kind) at (valued r at e v)
-seen-value r at e h (wrong f) = bad
-seen-value r at e h (good p) = stood p h
-
-seen-due : (s : List ℕ) (r : Row) (at end : ℕ) (h : Head) → header s at end ≡ h → Seen (r .kind) at (due (r .tag) (r .need) (rowBody s r) at h)
-unfolding rowBody
-seen-due s r at end (No f p) k = bad
-seen-due s r at end (At t a e) k = by-choose (Seen (r .kind) at) (eqb t (r .tag))
-    (λ _ _. let u = header-in s at end k in seen-value r at e (omega (arith, u .0, u .1)) (judged r (slice a e s) (value (r .form) (slice a e s))))
-    (λ _ _. seen-absent (r .kind) at (r .need) NotDue at)
-
-seen : (s : List ℕ) (r : Row) (end at : ℕ) → Seen (r .kind) at (component s (r .tag) (r .need) (rowBody s r) end at)
-unfolding component
-seen s r end at = by-choose (Seen (r .kind) at) (ltb at end) (λ _ _. seen-due s r at end (header s at end) refl) (λ _ _. seen-absent (r .kind) at (r .need) Missing end)
-
--- nothing behind
-pub then-none : (w : Res) → andThen w (λ m. took [] [] m) ≡ w
-then-none (took bs ms m) = rw (append-nil bs, append-nil ms) refl
-then-none (fails f x) = refl
 
 -- a row's record is among what was read exactly if the place moved
 and-false : (b : Bool) → (b && false) ≡ false
@@ -131,92 +98,101 @@ taken {a} {b} {o} {at} {end} {n} {q} d t = go (rw t at d)
     go : {w : Res} → Did a b o at end w (Took n q) → Taken w n
     go (did {bs = bs} {ms = ms} _ _ _ _) = record { recs = bs; marks = ms; is = refl }
 
--- a table of one row is that row's component
-seen-at : (s : List ℕ) (r : Row) (end at : ℕ) → Seen (r .kind) at (components s (r ∷ []) end at)
-unfolding components
-seen-at s r end at = rw (then-none (component s (r .tag) (r .need) (rowBody s r) end at)) (seen s r end at)
-
 -- the rule, on what was read
 module _ {a b : List ℕ} {o x e : ℕ} (at : ℕ) where
-  paired-fails : {w : Res} {f : Fault} {p : ℕ} → Did a b o x e w (Fails f p) → Did a b o x e (paired at w) (Fails f p)
-  paired-fails (fell z) = fell z
+  paired-fails : (k : ℕ) {w : Res} {f : Fault} {p : ℕ} → Did a b o x e w (Fails f p) → Did a b o x e (paired k at w) (Fails f p)
+  paired-fails k (fell z) = fell z
 
-  paired-did : {n v : ℕ} {bs : List Rec} {ms : List ℕ} (t : Bool) {r : Part} → same (has (indexRow .kind) bs) (has (lengthRow .kind) bs) ≡ t →
-      Did a b o x e (took bs ms n) (Took n v) → r ≡ choose t (λ _. Took n v) (λ _. Fails PathPair at) → Did a b o x e (paired at (took bs ms n)) r
-  paired-did true q d z = rw (q, z) d
-  paired-did false q d z = rw (q, z) (fell (did-same d))
+  paired-did : (k : ℕ) {n v : ℕ} {bs : List Rec} {ms : List ℕ} (t : Bool) {r : Part} → same (has (k + 1) bs) (has (k + 2) bs) ≡ t →
+      Did a b o x e (took bs ms n) (Took n v) → r ≡ choose t (λ _. Took n v) (λ _. Fails PathPair at) → Did a b o x e (paired k at (took bs ms n)) r
+  paired-did k true q d z = rw (q, z) d
+  paired-did k false q d z = rw (q, z) (fell (did-same d))
 
 abbrev one : List ℕ → Row → ℕ → ℕ → Res
 one s r end at = component s (r .tag) (r .need) (rowBody s r) end at
 
-module _ (s : List ℕ) (at : ℕ) {a b : List ℕ} {o x e : ℕ} {r : Part} (d : Did a b o x e (components s (slice 0 1 pathRows) e x) r) where
-  first : Did a b o x e (one s efidOrPathRow e x) r
+-- a Path's table has three rows
+pub three-rows : (q : Sequence) {n : ℕ} → rowsOf q ≡ pathRowsFrom (pathKind q) → n ≤ 3 → n ≤ length (rowsOf q)
+three-rows q e h = rw e (omega arith)
+
+-- of the Path whose records have kinds from K on
+module _ (s : List ℕ) (K : ℕ) (rows : List Row) (own : rows ≡ pathRowsFrom K) (at : ℕ) {a b : List ℕ} {o x e : ℕ} {r : Part} (d₀ : Did a b o x e (components s (slice 0 1 rows) e x) r) where
+  d : Did a b o x e (components s (slice 0 1 (pathRowsFrom K)) e x) r
+  d = rw own at d₀
+
+  first : Did a b o x e (one s (efidOrPathRow K) e x) r
   unfolding components
-  first = did-as d (then-none (one s efidOrPathRow e x))
+  first = did-as d (then-none (one s (efidOrPathRow K) e x))
 
-  pub path-first : {f : Fault} {p : ℕ} → r ≡ Fails f p → Did a b o x e (path s at x e) (Fails f p)
-  unfolding layouts.path components
-  path-first z = paired-fails at (did-fails (did-fails first (λ n. components s (indexRow ∷ lengthRow ∷ []) e n) z) (λ n. ended s e n) refl)
+  pub path-first : {f : Fault} {p : ℕ} → r ≡ Fails f p → Did a b o x e (pathFrom s K at x e) (Fails f p)
+  unfolding layouts.pathFrom components
+  path-first z = paired-fails at K (did-fails (did-fails first (λ n. components s ((indexRow K) ∷ (lengthRow K) ∷ []) e n) z) (λ n. ended s e n) refl)
 
-  module _ {c : List ℕ} {i q : ℕ} (z : r ≡ Took i q) {r1 : Part} (d1 : Did b c q i e (components s (slice 1 2 pathRows) e i) r1) where
-    second : Did b c q i e (one s indexRow e i) r1
+  module _ {c : List ℕ} {i q : ℕ} (z : r ≡ Took i q) {r1 : Part} (d₁ : Did b c q i e (components s (slice 1 2 rows) e i) r1) where
+    d1 : Did b c q i e (components s (slice 1 2 (pathRowsFrom K)) e i) r1
+    d1 = rw own at d₁
+
+    second : Did b c q i e (one s (indexRow K) e i) r1
     unfolding components
-    second = did-as d1 (then-none (one s indexRow e i))
+    second = did-as d1 (then-none (one s (indexRow K) e i))
 
-    pub path-second : {f : Fault} {p : ℕ} → r1 ≡ Fails f p → Did a c o x e (path s at x e) (Fails f p)
-    unfolding layouts.path components
-    path-second z1 = paired-fails at (did-fails (did-then first z (λ n. components s (indexRow ∷ lengthRow ∷ []) e n) (did-fails second (λ n. components s (lengthRow ∷ []) e n) z1)) (λ n. ended s e n) refl)
+    pub path-second : {f : Fault} {p : ℕ} → r1 ≡ Fails f p → Did a c o x e (pathFrom s K at x e) (Fails f p)
+    unfolding layouts.pathFrom components
+    path-second z1 = paired-fails at K (did-fails (did-then first z (λ n. components s ((indexRow K) ∷ (lengthRow K) ∷ []) e n) (did-fails second (λ n. components s ((lengthRow K) ∷ []) e n) z1)) (λ n. ended s e n) refl)
 
-    module _ {g : List ℕ} {j t : ℕ} (z1 : r1 ≡ Took j t) {r2 : Part} (d2 : Did c g t j e (components s (slice 2 3 pathRows) e j) r2) where
-      three : Did a g o x e (components s pathRows e x) r2
+    module _ {g : List ℕ} {j t : ℕ} (z1 : r1 ≡ Took j t) {r2 : Part} (d₂ : Did c g t j e (components s (slice 2 3 rows) e j) r2) where
+      d2 : Did c g t j e (components s (slice 2 3 (pathRowsFrom K)) e j) r2
+      d2 = rw own at d₂
+
+      three : Did a g o x e (components s (pathRowsFrom K) e x) r2
       unfolding components
-      three = did-then first z (λ n. components s (indexRow ∷ lengthRow ∷ []) e n) (did-then second z1 (λ n. components s (lengthRow ∷ []) e n) d2)
+      three = did-then first z (λ n. components s ((indexRow K) ∷ (lengthRow K) ∷ []) e n) (did-then second z1 (λ n. components s ((lengthRow K) ∷ []) e n) d2)
 
       pub path-same : length g ≡ length a
       path-same = did-same three
 
-      pub path-third : {f : Fault} {p : ℕ} → r2 ≡ Fails f p → Did a g o x e (path s at x e) (Fails f p)
-      unfolding layouts.path
-      path-third z2 = paired-fails at (did-fails three (λ n. ended s e n) z2)
+      pub path-third : {f : Fault} {p : ℕ} → r2 ≡ Fails f p → Did a g o x e (pathFrom s K at x e) (Fails f p)
+      unfolding layouts.pathFrom
+      path-third z2 = paired-fails at K (did-fails three (λ n. ended s e n) z2)
 
       module _ {k u : ℕ} (z2 : r2 ≡ Took k u) {r3 : Part} (d3 : Stays u k e (ended s e k) r3) where
-        four : Did a g o x e (andThen (components s pathRows e x) (λ n. ended s e n)) r3
+        four : Did a g o x e (andThen (components s (pathRowsFrom K) e x) (λ n. ended s e n)) r3
         four = did-ends three z2 (λ n. ended s e n) d3
 
-        pub path-more : {f : Fault} {p : ℕ} → r3 ≡ Fails f p → Did a g o x e (path s at x e) (Fails f p)
-        unfolding layouts.path
-        path-more z3 = paired-fails at (rw z3 at four)
+        pub path-more : {f : Fault} {p : ℕ} → r3 ≡ Fails f p → Did a g o x e (pathFrom s K at x e) (Fails f p)
+        unfolding layouts.pathFrom
+        path-more z3 = paired-fails at K (rw z3 at four)
 
         module _ {n v : ℕ} (z3 : r3 ≡ Took n v) {y : Part} (pair : Paired at i j k n v y) where
-          t0 : Taken (one s efidOrPathRow e x) i
+          t0 : Taken (one s (efidOrPathRow K) e x) i
           t0 = taken first z
 
-          t1 : Taken (one s indexRow e i) j
+          t1 : Taken (one s (indexRow K) e i) j
           t1 = taken second z1
 
-          t2 : Taken (components s (lengthRow ∷ []) e j) k
+          t2 : Taken (components s ((lengthRow K) ∷ []) e j) k
           t2 = taken d2 z2
 
           t3 : Taken (ended s e k) n
           t3 = taken (d3 .is g) z3
 
-          whole : andThen (components s pathRows e x) (λ m. ended s e m) ≡ took (((t0 .recs) ++ ((t1 .recs) ++ (t2 .recs))) ++ (t3 .recs)) (((t0 .marks) ++ ((t1 .marks) ++ (t2 .marks))) ++ (t3 .marks)) n
+          whole : andThen (components s (pathRowsFrom K) e x) (λ m. ended s e m) ≡ took (((t0 .recs) ++ ((t1 .recs) ++ (t2 .recs))) ++ (t3 .recs)) (((t0 .marks) ++ ((t1 .marks) ++ (t2 .marks))) ++ (t3 .marks)) n
           unfolding components
           whole = rw (t0 .is, t1 .is, t2 .is, t3 .is) refl
 
           abbrev held : List Rec
           held = ((t0 .recs) ++ ((t1 .recs) ++ (t2 .recs))) ++ (t3 .recs)
 
-          has-held : (m : ℕ) → has m held ≡ (((eqb (efidOrPathRow .kind) m && not (eqb x i)) || ((eqb (indexRow .kind) m && not (eqb i j)) || (eqb (lengthRow .kind) m && not (eqb j k)))) || false)
+          has-held : (m : ℕ) → has m held ≡ (((eqb ((efidOrPathRow K) .kind) m && not (eqb x i)) || ((eqb ((indexRow K) .kind) m && not (eqb i j)) || (eqb ((lengthRow K) .kind) m && not (eqb j k)))) || false)
           has-held m =
-              let u0 = seen-has (seen s efidOrPathRow e x) (t0 .is) m in
-              let u1 = seen-has (seen s indexRow e i) (t1 .is) m in
-              let u2 = seen-has (seen-at s lengthRow e j) (t2 .is) m in
+              let u0 = seen-has (seen s (efidOrPathRow K) e x) (t0 .is) m in
+              let u1 = seen-has (seen s (indexRow K) e i) (t1 .is) m in
+              let u2 = seen-has (seen-at s (lengthRow K) e j) (t2 .is) m in
               rw (has-append m ((t0 .recs) ++ ((t1 .recs) ++ (t2 .recs))) (t3 .recs), has-append m (t0 .recs) ((t1 .recs) ++ (t2 .recs)), has-append m (t1 .recs) (t2 .recs), u0, u1, u2, ended-none s e k (t3 .is)) refl
 
-          ruled : same (has (indexRow .kind) held) (has (lengthRow .kind) held) ≡ same (eqb i j) (eqb j k)
-          ruled = rw (has-held (indexRow .kind), has-held (lengthRow .kind)) (same-not (eqb i j) (eqb j k))
+          ruled : same (has ((indexRow K) .kind) held) (has ((lengthRow K) .kind) held) ≡ same (eqb i j) (eqb j k)
+          ruled = rw (has-held (K + 1), has-held (K + 2), ne-eqb K (K + 1) (omega arith), ne-eqb K (K + 2) (omega arith), ne-eqb (K + 1) (K + 2) (omega arith), ne-eqb (K + 2) (K + 1) (omega arith), eq-eqb (K + 1) (K + 1) refl, eq-eqb (K + 2) (K + 2) refl) (same-not (eqb i j) (eqb j k))
 
-          pub path-pairs : Did a g o x e (path s at x e) y
-          unfolding layouts.path
-          path-pairs = rw whole (paired-did at (same (eqb i j) (eqb j k)) ruled (did-as (rw z3 at four) whole) (pair .is))
+          pub path-pairs : Did a g o x e (pathFrom s K at x e) y
+          unfolding layouts.pathFrom
+          path-pairs = rw whole (paired-did at K (same (eqb i j) (eqb j k)) ruled (did-as (rw z3 at four) whole) (pair .is))

@@ -50,7 +50,7 @@ module _ (r : Row) (n : Bool) (m at e : ℕ) where
     unfolding payload
     number-out y = rw (sym u ∙ v, sym w ∙ y) (fell refl)
 
-    pub number-put : {a b : List ℕ} {o q : ℕ} → x ≡ true → at + 2 ≤ e → o ≤ 8 * at → q ≡ o + 8 → Put a b o q (recordBytes (r .kind) (le32 m)) → Did a b o at e (valued r at e (payload Integer r [] n m)) (Took e q)
+    pub number-put : {a b : List ℕ} {o q : ℕ} → x ≡ true → at + 2 ≤ e → o ≤ 8 * at + 131072 → q ≡ o + 8 → Put a b o q (recordBytes (r .kind) (le32 m)) → Did a b o at e (valued r at e (payload Integer r [] n m)) (Took e q)
     unfolding payload
     number-put y h l p f = rw (sym u ∙ v, sym w ∙ y) (did-one (r .kind) (le32 m) at e f (omega arith) (omega arith))
 
@@ -59,7 +59,7 @@ module _ (r : Row) (n : Bool) (m at e : ℕ) where
     unfolding payload
     boolean-default v = rw (sym u ∙ v) (fell refl)
 
-    pub boolean-put : {a b : List ℕ} {o q : ℕ} → t ≡ false → at + 2 ≤ e → o ≤ 8 * at → q ≡ o + 5 → Put a b o q (recordBytes (r .kind) (m ∷ [])) → Did a b o at e (valued r at e (payload Boolean r [] n m)) (Took e q)
+    pub boolean-put : {a b : List ℕ} {o q : ℕ} → t ≡ false → at + 2 ≤ e → o ≤ 8 * at + 131072 → q ≡ o + 5 → Put a b o q (recordBytes (r .kind) (m ∷ [])) → Did a b o at e (valued r at e (payload Boolean r [] n m)) (Took e q)
     unfolding payload
     boolean-put v h l p f = rw (sym u ∙ v) (did-one (r .kind) (m ∷ []) at e f (omega arith) (omega arith))
 
@@ -71,7 +71,7 @@ module _ (s : List ℕ) (r : Row) (n : Bool) (m at x e : ℕ) where
     pub bytes-out : {a : List ℕ} {o : ℕ} → t ≡ false → Did a a o at e (valued r at e (sized r (slice x e s) n m)) (Fails BadSize at)
     bytes-out y = rw (sym w ∙ y) (fell refl)
 
-    pub bytes-put : {a b : List ℕ} {o q : ℕ} → t ≡ true → at + 2 ≤ x → x ≤ e → o ≤ 8 * at → q ≡ o + 4 + (e - x) → Put a b o q (recordBytes (r .kind) (slice x e s)) → Did a b o at e (valued r at e (sized r (slice x e s) n m)) (Took e q)
+    pub bytes-put : {a b : List ℕ} {o q : ℕ} → t ≡ true → at + 2 ≤ x → x ≤ e → o ≤ 8 * at + 131072 → q ≡ o + 4 + (e - x) → Put a b o q (recordBytes (r .kind) (slice x e s)) → Did a b o at e (valued r at e (sized r (slice x e s) n m)) (Took e q)
     bytes-put y h i l p f = rw (sym w ∙ y) (did-one (r .kind) (slice x e s) at e f (omega arith) (omega arith))
 
   abbrev judging : List ℕ → List ℕ → ℕ → Part → Type 0
@@ -93,7 +93,7 @@ module _ (s : List ℕ) (r : Row) (n : Bool) (m at x e : ℕ) where
   unfolding payload
   judged-text z d = as-form r (slice x e s) n m at e Text z d
 
-  module _ {a b : List ℕ} {o q : ℕ} (h : at + 2 ≤ x) (i : x ≤ e) (l : o ≤ 8 * at) where
+  module _ {a b : List ℕ} {o q : ℕ} (h : at + 2 ≤ x) (i : x ≤ e) (l : o ≤ 8 * at + 131072) where
     pub judged-bits : r .form ≡ Bits → q ≡ o + 8 → Put a b o q (recordBytes (r .kind) (le32 m)) → judging a b o (Took e q)
     unfolding payload
     judged-bits z p f = as-form r (slice x e s) n m at e Bits z (did-one (r .kind) (le32 m) at e f (omega arith) (omega arith))

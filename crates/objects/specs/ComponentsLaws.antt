@@ -26,7 +26,7 @@ pub record Along (s : List ℕ) (rs : List Row) (a b : List ℕ) (i last end at 
   pub fits : last ≤ length rs
   pub low : at ≤ n
   pub high : n ≤ end
-  pub small : p ≤ 8 * n
+  pub small : p ≤ 8 * n + 131072
   pub same : length b ≡ length a
   pub before : Res
   pub done : Did a b o at end before (Took n p)
@@ -36,7 +36,7 @@ pub also-none : (w : Res) → also [] [] w ≡ w
 also-none (took bs ms n) = refl
 also-none (fails f p) = refl
 
-pub along-none : (s : List ℕ) (rs : List Row) (a : List ℕ) (i last end at o : ℕ) → i ≤ last → last ≤ length rs → at ≤ end → o ≤ 8 * at → Along s rs a a i last end at o i at o
+pub along-none : (s : List ℕ) (rs : List Row) (a : List ℕ) (i last end at o : ℕ) → i ≤ last → last ≤ length rs → at ≤ end → o ≤ 8 * at + 131072 → Along s rs a a i last end at o i at o
 along-none s rs a i last end at o h l j k = record {
   from = omega arith;
   upto = h;

@@ -28,12 +28,12 @@ use Rattle.rules.specs.Book.{encode}
 
 -- the code's answer is the definition's: its records are laid out from o on in the lent book, which was a and is b; what was read lies from `at` to `end`
 pub data Did (a b : List ℕ) (o at end : ℕ) : Res → Part → Type 0 where
-  did : {bs : List Rec} {ms : List ℕ} {n q : ℕ} → Put a b o q (encode bs) → at ≤ n → n ≤ end → q ≤ 8 * n → Did a b o at end (took bs ms n) (Took n q)
+  did : {bs : List Rec} {ms : List ℕ} {n q : ℕ} → Put a b o q (encode bs) → at ≤ n → n ≤ end → q ≤ 8 * n + 131072 → Did a b o at end (took bs ms n) (Took n q)
   fell : {f : Fault} {p : ℕ} → length b ≡ length a → Did a b o at end (fails f p) (Fails f p)
 
 -- the same of parts that are counted
 pub data DidMany (a b : List ℕ) (o at end : ℕ) : Res → Many → Type 0 where
-  didMany : {bs : List Rec} {ms : List ℕ} {n q c : ℕ} → Put a b o q (encode bs) → c ≡ length ms → at ≤ n → n ≤ end → q ≤ 8 * n → DidMany a b o at end (took bs ms n) (many.Took n q c)
+  didMany : {bs : List Rec} {ms : List ℕ} {n q c : ℕ} → Put a b o q (encode bs) → c ≡ length ms → at ≤ n → n ≤ end → q ≤ 8 * n + 131072 → DidMany a b o at end (took bs ms n) (many.Took n q c)
   fellMany : {f : Fault} {p : ℕ} → length b ≡ length a → DidMany a b o at end (fails f p) (many.Fails f p)
 
 -- what was read ends past `at`
@@ -50,11 +50,11 @@ pub record Inside (a b : List ℕ) (o x e : ℕ) (g : Body) (r : Part) : Type 0 
 
 -- an element of s at `at`, its contents from a to e; its records go to o
 abbrev pub InElement : List ℕ → ℕ → ℕ → ℕ → ℕ → Type 0
-InElement s at a e o = (at + 2 ≤ a) × (a ≤ e) × (e ≤ length s) × (length s ≤ 32768) × (o ≤ 8 * at)
+InElement s at a e o = (at + 2 ≤ a) × (a ≤ e) × (e ≤ length s) × (length s ≤ 32768) × (o ≤ 8 * at + 131072)
 
 -- a place of s in a container that ends at `end`; its records go to o
 abbrev pub InContainer : List ℕ → ℕ → ℕ → ℕ → Type 0
-InContainer s end at o = (at ≤ end) × (end ≤ length s) × (length s ≤ 32768) × (o ≤ 8 * at)
+InContainer s end at o = (at ≤ end) × (end ≤ length s) × (length s ≤ 32768) × (o ≤ 8 * at + 131072)
 
 -- the rule of a Path whose components end at i, j and k: index stands if the second moved, length if the third did
 pub record Paired (at i j k n v : ℕ) (r : Part) : Type 0 where

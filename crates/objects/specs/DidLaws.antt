@@ -34,12 +34,12 @@ unfolding encode
 encode-one k p = append-nil (recordBytes k p)
 
 -- nothing is there
-pub did-none : (a : List ℕ) (o at end : ℕ) → at ≤ end → o ≤ 8 * at → Did a a o at end (took [] [] at) (Took at o)
+pub did-none : (a : List ℕ) (o at end : ℕ) → at ≤ end → o ≤ 8 * at + 131072 → Did a a o at end (took [] [] at) (Took at o)
 unfolding encode
 did-none a o at end h l = did {n = at} (put-none a o) (omega arith) h l
 
 -- one record
-pub did-one : {a b : List ℕ} {o q : ℕ} (k : ℕ) (p : List ℕ) (at e : ℕ) → Put a b o q (recordBytes k p) → at ≤ e → q ≤ 8 * e → Did a b o at e (took (rec k p ∷ []) [] e) (Took e q)
+pub did-one : {a b : List ℕ} {o q : ℕ} (k : ℕ) (p : List ℕ) (at e : ℕ) → Put a b o q (recordBytes k p) → at ≤ e → q ≤ 8 * e + 131072 → Did a b o at e (took (rec k p ∷ []) [] e) (Took e q)
 did-one k p at e f h l = did {n = e} (put-as f (sym (encode-one k p))) h (omega arith) l
 
 module _ {a b : List ℕ} {o at end : ℕ} {w : Res} {r : Part} (d : Did a b o at end w r) where
@@ -78,10 +78,10 @@ module _ {a b : List ℕ} {o at end : ℕ} {w : Res} {r : Part} (d : Did a b o a
         go : {w : Res} → Did a b o at end w (Took n q) → n ≤ end
         go (did _ _ j _) = j
 
-    pub did-small : q ≤ 8 * n
+    pub did-small : q ≤ 8 * n + 131072
     did-small = go took-was
       where
-        go : {w : Res} → Did a b o at end w (Took n q) → q ≤ 8 * n
+        go : {w : Res} → Did a b o at end w (Took n q) → q ≤ 8 * n + 131072
         go (did _ _ _ k) = k
 
     -- and then another part
@@ -127,14 +127,14 @@ module _ {s : List ℕ} {tag : ℕ} {need : Need} {end at : ℕ} {r : Due} (u : 
   pub due-high : {x e n : ℕ} → r ≡ Here x e → end ≤ n → e ≤ n
   due-high {x} {e} t h = omega (arith, u .inside x e t .2)
 
-  pub due-room : {x e o : ℕ} → r ≡ Here x e → o ≤ 8 * at → o ≤ 8 * x
+  pub due-room : {x e o : ℕ} → r ≡ Here x e → o ≤ 8 * at + 131072 → o ≤ 8 * x + 131072
   due-room {x} {e} t h = omega (arith, u .inside x e t .0)
 
   module _ (g : Body) where
     pub due-fails : (a : List ℕ) (o : ℕ) {f : Fault} {p : ℕ} → r ≡ Not f p → Did a a o at end (component s tag need g end at) (Fails f p)
     due-fails a o t = rw (u .is g, t) (fell refl)
 
-    pub due-absent : (a : List ℕ) (o : ℕ) → at ≤ end → o ≤ 8 * at → r ≡ Absent → Did a a o at end (component s tag need g end at) (Took at o)
+    pub due-absent : (a : List ℕ) (o : ℕ) → at ≤ end → o ≤ 8 * at + 131072 → r ≡ Absent → Did a a o at end (component s tag need g end at) (Took at o)
     due-absent a o h l t = rw (u .is g, t) (did-none a o at end h l)
 
     pub due-here : {a b : List ℕ} {o x e : ℕ} {y : Part} → r ≡ Here x e → Did a b o at e (g at x e) y → Did a b o at end (component s tag need g end at) y
@@ -157,7 +157,7 @@ module _ (s : List ℕ) (end at : ℕ) {h : Head} (k : h ≡ header s at end) {t
   pub head-high : {n : ℕ} → end ≤ n → e ≤ n
   head-high l = omega (arith, header-in s at end (sym k ∙ q) .2)
 
-  pub head-room : {o : ℕ} → o ≤ 8 * at → o ≤ 8 * x
+  pub head-room : {o : ℕ} → o ≤ 8 * at + 131072 → o ≤ 8 * x + 131072
   head-room l = omega (arith, header-in s at end (sym k ∙ q) .0)
 
 -- an element whatever its tag, by its header

@@ -26,7 +26,7 @@ pub record Marks (w : Res) (c : ℕ) : Type 0 where
 pub record Going (more : ℕ → ℕ → Bool) (f : ℕ → Reader) (a b : List ℕ) (end at o j k n p : ℕ) : Type 0 where
   pub low : at ≤ n
   pub high : n ≤ end
-  pub small : p ≤ 8 * n
+  pub small : p ≤ 8 * n + 131072
   pub same : length b ≡ length a
   pub bs : List Rec
   pub ms : List ℕ
@@ -36,7 +36,7 @@ pub record Going (more : ℕ → ℕ → Bool) (f : ℕ → Reader) (a b : List 
   pub enough : end - n ≤ turns
   pub rest : also bs ms (repeat more f turns k end n) ≡ repeat more f (end - at) j end at
 
-unfoldable pub going-none : (more : ℕ → ℕ → Bool) (f : ℕ → Reader) (a : List ℕ) (end at o j : ℕ) → at ≤ end → o ≤ 8 * at → Going more f a a end at o j j at o
+unfoldable pub going-none : (more : ℕ → ℕ → Bool) (f : ℕ → Reader) (a : List ℕ) (end at o j : ℕ) → at ≤ end → o ≤ 8 * at + 131072 → Going more f a a end at o j j at o
 unfolding encode
 going-none more f a end at o j h l = record {
   low = omega arith;
@@ -69,7 +69,7 @@ module _ {more : ℕ → ℕ → Bool} {f : ℕ → Reader} {a b : List ℕ} {en
     going-break z = let t = turn (h .turns) (h .enough) in sym (h .rest) ∙ rw (t .2, z) refl
 
     -- an item that is taken
-    unfoldable pub going-step : {c : List ℕ} {r q i : ℕ} (cs : List Rec) (ns : List ℕ) → f k end n ≡ took cs ns r → Put b c p q (encode cs) → n < r → r ≤ end → q ≤ 8 * r → i ≡ k + length ns → Going more f a c end at o j i r q
+    unfoldable pub going-step : {c : List ℕ} {r q i : ℕ} (cs : List Rec) (ns : List ℕ) → f k end n ≡ took cs ns r → Put b c p q (encode cs) → n < r → r ≤ end → q ≤ 8 * r + 131072 → i ≡ k + length ns → Going more f a c end at o j i r q
     going-step {c} {r} {q} {i} cs ns u g fw hi sm e =
         let t = turn (h .turns) (h .enough) in
         let one : repeat more f (h .turns) k end n ≡ also cs ns (repeat more f (t .0) i end r) = t .2 ∙ rw (u, e) refl in

@@ -1,9 +1,12 @@
+use crate::part::Due;
 use crate::part::Part;
+use crate::part::stands;
 use elements::Fault;
 use elements::Head;
 use elements::Run;
 use elements::header;
 use elements::put_record;
+use rules::Need;
 use rules::Sequence;
 use rules::kept_out;
 use rules::rest_of;
@@ -11,7 +14,8 @@ ghost use mathlib.Core.Path.{_≡_};
 ghost use mathlib.Core.List.{[]};
 ghost use Prim.Native.Nat.{_≤_};
 ghost use lib.ListN.{length};
-ghost use Rattle.rules.specs.Parts.{ended, rest, sealed, innerRun};
+ghost use Rattle.rules.specs.declared.table.Need.the-variants.{Optional};
+ghost use Rattle.rules.specs.Parts.{component, ended, rest, sealed, innerRun};
 ghost use Rattle.rules.specs.Tables.{restOf, keptOf};
 ghost use Rattle.objects.specs.Did.{Did, Stays, InElement, InContainer};
 
@@ -108,5 +112,25 @@ pub fn sealed(
     match inner_run(s, t, a, e) {
         Run::Refused(f, p) => Part::Fails(f, p),
         Run::Ends(_) => Part::Took(e, put_record(out, o, kind, s, at, e)),
+    }
+}
+
+// The same of one tag, where it may stand.
+pub fn sealed_if(
+    s: &[u8],
+    tag: u8,
+    kind: u16,
+    end: usize,
+    at: usize,
+    out: &mut [u8],
+    o: usize,
+) -> Part
+    requires { ⌜ InContainer (now s) end at o ⌝ }
+    ensures { λ r. ⌜ Did (now (out .entry)) (now (out .exit)) o at end (component (now (s .entry)) tag Optional (sealed (now (s .entry)) kind [] tag) end at) r ⌝ }
+{
+    match stands(s, tag, Need::Optional, end, at) {
+        Due::Not(f, p) => Part::Fails(f, p),
+        Due::Absent => Part::Took(at, o),
+        Due::Here(a, e) => sealed(s, kind, tag, at, a, e, out, o),
     }
 }

@@ -54,7 +54,7 @@ fn in_bounds(r: Row, n: bool, m: u32) -> bool
 
 // The record of a number, told by sign and magnitude, of an element at `at` that ends at e.
 fn number_row(r: Row, n: bool, m: u32, at: usize, e: usize, out: &mut [u8], o: usize) -> Part
-    requires { ⌜ (at + 2 ≤ e) × (e ≤ 32768) × (o ≤ 8 * at) ⌝ }
+    requires { ⌜ (at + 2 ≤ e) × (e ≤ 32768) × (o ≤ 8 * at + 131072) ⌝ }
     ensures { λ w. ⌜ Did (now (out .entry)) (now (out .exit)) o at e (valued r at e (payload Integer r [] n m)) w ⌝ }
 {
     let need = r.need;
@@ -69,7 +69,7 @@ fn number_row(r: Row, n: bool, m: u32, at: usize, e: usize, out: &mut [u8], o: u
 
 // The record of a BOOLEAN: one byte.
 fn boolean_row(r: Row, n: bool, m: u32, at: usize, e: usize, out: &mut [u8], o: usize) -> Part
-    requires { ⌜ (m < 256) × (at + 2 ≤ e) × (e ≤ 32768) × (o ≤ 8 * at) ⌝ }
+    requires { ⌜ (m < 256) × (at + 2 ≤ e) × (e ≤ 32768) × (o ≤ 8 * at + 131072) ⌝ }
     ensures { λ w. ⌜ Did (now (out .entry)) (now (out .exit)) o at e (valued r at e (payload Boolean r [] n m)) w ⌝ }
 {
     let need = r.need;

@@ -6,6 +6,7 @@ use crate::keep::sealed;
 use crate::part::Due;
 use crate::part::Part;
 use crate::part::stands;
+use crate::path::due_path;
 use crate::path::path;
 use crate::row::components;
 use elements::Fault;
@@ -25,24 +26,12 @@ ghost use Rattle.rules.specs.Objects.{path, privateKey, certificateValue, certi
 ghost use Rattle.objects.specs.Composed.{passwordParts};
 ghost use Rattle.objects.specs.Did.{Did, Inside, bothFlags, InElement, InContainer};
 
-// A Path where it is due, or may stand.
-fn due_path(s: &[u8], need: Need, end: usize, at: usize, out: &mut [u8], o: usize) -> Part
-    requires { ⌜ InContainer (now s) end at o ⌝ }
-    ensures { λ r. ⌜ Did (now (out .entry)) (now (out .exit)) o at end (component (now (s .entry)) 0x30 need (path (now (s .entry))) end at) r ⌝ }
-{
-    match stands(s, 0x30, need, end, at) {
-        Due::Not(f, p) => Part::Fails(f, p),
-        Due::Absent => Part::Took(at, o),
-        Due::Here(a, e) => path(s, at, a, e, out, o),
-    }
-}
-
 // "Private key, as 30 { Path, modulusLength, rest }": its contents from a to e.
 fn private_key(s: &[u8], a: usize, e: usize, out: &mut [u8], o: usize) -> Part
     requires { ⌜ InContainer (now s) e a o ⌝ }
     ensures { λ r. ⌜ Inside (now (out .entry)) (now (out .exit)) o a e (privateKey (now (s .entry))) r ⌝ }
 {
-    match due_path(s, Need::Required, e, a, out, o) {
+    match due_path(s, Sequence::Path, 0x30, Need::Required, e, a, out, o) {
         Part::Fails(f, p) => Part::Fails(f, p),
         Part::Took(n, q) => match components(s, Sequence::PrivateKeyAttributes, e, n, out, q) {
             Part::Fails(f, p) => Part::Fails(f, p),
@@ -60,7 +49,7 @@ fn certificate_value(s: &[u8], end: usize, at: usize, out: &mut [u8], o: usize) 
         Head::No(f, p) => Part::Fails(f, p),
         Head::At(t, a, e) => {
             if t == 0x30 {
-                return path(s, at, a, e, out, o);
+                return path(s, Sequence::Path, at, a, e, out, o);
             }
             sealed(s, 0x0184, t, at, a, e, out, o)
         }
@@ -96,7 +85,7 @@ fn password_parts(s: &[u8], a: usize, e: usize, out: &mut [u8], o: usize) -> Par
 {
     match components(s, Sequence::PasswordAttributes, e, a, out, o) {
         Part::Fails(f, p) => Part::Fails(f, p),
-        Part::Took(n, q) => match due_path(s, Need::Optional, e, n, out, q) {
+        Part::Took(n, q) => match due_path(s, Sequence::Path, 0x30, Need::Optional, e, n, out, q) {
             Part::Fails(f, p) => Part::Fails(f, p),
             Part::Took(m, t) => rest_in(s, Sequence::PasswordAttributes, e, m, out, t),
         },

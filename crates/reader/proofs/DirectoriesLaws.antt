@@ -51,13 +51,13 @@ pub record Turning (s : List ℕ) (at : ℕ) (a b u v : List ℕ) (i end o k j n
   pub marks : Put u v k c ns
   pub whole : (rs : List Rec) (fs : List File) (g : ℕ) → Lies a i end rs → frames s g at ≡ files fs → also ds ns (directories s (namesOf now) rest c) ≡ directories s (namesOf rs) fs k
   pub high : n ≤ length s
-  pub room : p ≤ 8 * n
+  pub room : p ≤ 8 * n + 131072
   pub behind : end ≤ p
   pub few : c ≤ 128
   pub same : length b ≡ length a
   pub kept : length v ≡ length u
 
-pub turning-start : (s : List ℕ) (at : ℕ) (a u : List ℕ) (i end o k : ℕ) {j : ℕ} → Holds a i end → Sound s at → NameTold a i end j → at ≤ length s → k ≤ 128 → end ≤ o → o ≤ 8 * at → Turning s at a a u u i end o k j at o k
+pub turning-start : (s : List ℕ) (at : ℕ) (a u : List ℕ) (i end o k : ℕ) {j : ℕ} → Holds a i end → Sound s at → NameTold a i end j → at ≤ length s → k ≤ 128 → end ≤ o → o ≤ 8 * at + 131072 → Turning s at a a u u i end o k j at o k
 unfolding encode
 turning-start s at a u i end o k {j} h w t l m n q = record {
   now = h .rs;
@@ -215,10 +215,10 @@ module _ {s : List ℕ} {n : ℕ} {r : Framed} (h : Path s n r) {k x a e : ℕ} 
   pub file-high : e ≤ length s
   file-high = h .is k x a e z .3
 
-  pub file-room : {p : ℕ} → p ≤ 8 * n → p + 4 ≤ 8 * a
+  pub file-room : {p : ℕ} → p ≤ 8 * n + 131072 → p + 4 ≤ 8 * a + 131072
   file-room l = omega (arith, h .is k x a e z)
 
-  pub file-place : {p : ℕ} → p ≤ 8 * n → p ≤ 8 * a
+  pub file-place : {p : ℕ} → p ≤ 8 * n + 131072 → p ≤ 8 * a + 131072
   file-place l = omega (arith, h .is k x a e z)
 
   pub file-less : n < length s → length s - e < length s - n

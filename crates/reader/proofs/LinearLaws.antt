@@ -33,12 +33,12 @@ pub record Records (s : List ℕ) (entry : ℕ) (a b u v : List ℕ) (end at o k
   pub few : j ≤ 128
   pub low : at ≤ n
   pub high : n ≤ end
-  pub small : p ≤ 8 * n
+  pub small : p ≤ 8 * n + 131072
   pub fit : Fit s end n
   pub same : length b ≡ length a
   pub kept : length v ≡ length u
 
-pub records-start : {s : List ℕ} (entry : ℕ) (a u : List ℕ) {end at : ℕ} (o k : ℕ) → Bytes s → end ≤ length s → length s ≤ 32768 → Fit s end at → k ≤ 128 → at ≤ end → o ≤ 8 * at → Records s entry a a u u end at o k k at o
+pub records-start : {s : List ℕ} (entry : ℕ) (a u : List ℕ) {end at : ℕ} (o k : ℕ) → Bytes s → end ≤ length s → length s ≤ 32768 → Fit s end at → k ≤ 128 → at ≤ end → o ≤ 8 * at + 131072 → Records s entry a a u u end at o k k at o
 unfolding going-none
 records-start {s} entry a u {end} {at} o k b i l f h m q = record {
   bytes = b;
@@ -87,10 +87,10 @@ module _ {s : List ℕ} {entry : ℕ} {a b u v : List ℕ} {end at o k j n p : �
       pub records-high : n + 2 + m ≤ length s
       records-high = omega (arith, next-high, h .inside)
 
-      pub records-room : p + 4 ≤ 8 * (n + 2)
+      pub records-room : p + 4 ≤ 8 * (n + 2) + 131072
       records-room = omega (arith, h .small)
 
-      pub records-small : p ≤ 8 * (n + 2)
+      pub records-small : p ≤ 8 * (n + 2) + 131072
       records-small = omega (arith, h .small)
 
       module _ {c x : List ℕ} {w : Many} (d : DidObjects b c v x p (n + 2) (n + 2 + m) j (filledUp s holder.Record 0x011a entry j (n + 2 + m) (n + 2)) w) where

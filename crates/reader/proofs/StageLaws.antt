@@ -1,11 +1,13 @@
 -- The stages of reading, one after the other.
 use Prim.Native.Nat.{ℕ, _+_, _-_, _*_, _<_, _≤_}
 use mathlib.Core.Path.{_≡_, refl, sym, ap, _∙_}
+use mathlib.Core.Bool.{Bool, true, false}
 use mathlib.Core.List.{List, [], _++_, append-assoc}
 use native.Mathlib.Omega.{arith}
 use native.Mathlib.Nat.{le-refl}
-use lib.ListN.{length, take}
-use lib.Seq.{slice, length-slice, length-take-le}
+use lib.ListN.{length, getD, take, length-append}
+use lib.Seq.{slice, length-slice, length-take-le, take-length}
+use lib.Dec.{eqb}
 use borrow.Author.Tests.{lt-ltb, le-ltb, le-leb, lt-leb}
 use Rattle.elements.specs.declared.fault.Fault.{Fault}
 use Rattle.elements.specs.declared.fault.Fault.the-variants.{DumpSize, PathTwice, AuthIdTwice}
@@ -24,29 +26,32 @@ use Rattle.reader.specs.declared.twelve.Followed.{Followed}
 use Rattle.reader.specs.declared.twelve.Followed.the-variants.{Fine, Wrong}
 use Rattle.reader.specs.declared.frame.Framed.{Framed}
 use Rattle.reader.specs.declared.frame.Framed.the-variants as file
+use Rattle.reader.specs.declared.dump.Heads.{Heads}
+use Rattle.reader.specs.declared.dump.Heads.the-variants as heads
 use Rattle.reader.specs.declared.frame.Chain.{Chain}
 use Rattle.reader.specs.declared.frame.Chain.the-variants.{Sound, Unsound}
 use Rattle.rules.specs.declared.outcome.Outcome.{Outcome}
 use Rattle.rules.specs.declared.outcome.Outcome.the-variants.{Accepted, Refused}
 use Rattle.rules.specs.Reading.{Rec, Res, took}
-use Rattle.rules.specs.Files.{File, files, frames, namesOf, paths, firstAgain, follow, directories, repeated, cia, od, accepted, Answer, onRes, onCheck, frame, readFiles, readParts, readDump}
+use Rattle.rules.specs.Files.{File, files, frames, namesOf, paths, firstAgain, follow, directories, repeated, cia, od, dir, accepted, refused, Answer, onRes, andAlso, onCheck, frame, readFiles, readParts, readFrom, hasDir, readDump}
 use Rattle.rules.specs.Book.{encode}
 use Rattle.rules.specs.LookLaws.{Laid, size, laid-append}
 use Rattle.rules.specs.ReadLaws.{cia-kept, od-kept}
 use Rattle.cards.specs.Card as card
 use Rattle.cards.specs.DumpLaws.{dirs-read}
 use Rattle.cards.specs.CardRender.{files-renders}
+use Rattle.cards.specs.WriteLaws.{book-bound}
 use Rattle.rules.specs.BookLaws.{book-size}
 use Rattle.objects.specs.Did.{Did, did, fell}
 use Rattle.files.specs.Filing.{DidObjects, fellObjects, objectsOf, DidEntries, PathsTold}
 use Rattle.files.specs.Scan.{Lies, Holds, IdsTold, clashOf}
 use Rattle.reader.specs.Frame.{framedAs, Inner, FramesTold}
-use Rattle.reader.proofs.FrameLaws.{inner-mid, inner-high}
+use Rattle.reader.proofs.FrameLaws.{inner-low, inner-mid, inner-high}
 use Rattle.reader.specs.Twelve.{FollowTold, followedAs}
 use Rattle.reader.specs.Directories.{DidFiles, didFiles, fellFiles, FilesTold}
-use Rattle.reader.specs.Stages.{Reads, reads, falls, Framing, Opening, Opened, FilesRead, EntriesRead, PartsRead}
+use Rattle.reader.specs.Stages.{Reads, reads, falls, Framing, Opening, Opened, FilesRead, EntriesRead, PartsRead, HeadsAre, HeadsTold, unsound, sound, Judged, DirFirst}
 use Rattle.objects.specs.DidLaws.{encode-append, did-same}
-use Rattle.files.specs.ObjectsLaws.{objects-open, objects-few, objects-same}
+use Rattle.files.specs.ObjectsLaws.{did-open, objects-open, objects-few, objects-same}
 use Rattle.files.specs.LiesLaws.{put-lies, put-lie}
 
 -- records laid out behind others
@@ -248,29 +253,167 @@ module _ {s a b : List ℕ} {from to start stop : ℕ} (h : Framing s start stop
     }
 
 -- the frames
+module _ (s : List ℕ) (at : ℕ) {x : Framed} (e : frame s 1 at ≡ framedAs at x) where
+  pub heads-first : {f : Fault} {p : ℕ} → x ≡ file.Broken f p → HeadsTold s at (heads.Broken f p)
+  unfolding readFrom
+  heads-first {f} {p} z = unsound {f = f} {p = p} (λ k. rw (e, z) refl)
+
+  module _ {k n from to : ℕ} (z : x ≡ file.File k n from to) {y : Framed} (d : frame s 2 to ≡ framedAs to y) where
+    pub heads-second : {f : Fault} {p : ℕ} → y ≡ file.Broken f p → HeadsTold s at (heads.Broken f p)
+    unfolding readFrom
+    heads-second {f} {p} v = unsound {f = f} {p = p} (λ k. rw (e, z, d, v) refl)
+
+    module _ {l m start stop : ℕ} (v : y ≡ file.File l m start stop) {g : Chain} (t : FramesTold s stop g) where
+      pub heads-chain : {f : Fault} {p : ℕ} → g ≡ Unsound f p → HeadsTold s at (heads.Broken f p)
+      unfolding readFrom
+      heads-chain {f} {p} u = unsound {f = f} {p = p} (λ k. rw (e, z, d, v, t .unsound f p u) refl)
+
+      pub heads-are : g ≡ Sound → Inner s at x → Inner s to y → HeadsTold s at (heads.Are from to start stop)
+      unfolding readFrom
+      heads-are u i j =
+          let w = t .sound u in
+          sound (record {
+            info = record { place = at; kind = k; named = n; start = from; stop = to };
+            main = record { place = to; kind = l; named = m; start = start; stop = stop };
+            fs = w .0;
+            info-from = refl;
+            info-to = refl;
+            main-from = refl;
+            main-to = refl;
+            chain = w .1;
+            is = λ k. rw (e, z, d, v, w .1) refl;
+            first = inner-low i z;
+            order = inner-mid i z;
+            next = inner-low j v;
+            low = inner-mid j v;
+            high = inner-high j v;
+          })
+
+-- what is read from there on
+module _ {s : List ℕ} {at : ℕ} {h : Heads} (d : HeadsTold s at h) where
+  broken-so : {f : Fault} {p : ℕ} → h ≡ heads.Broken f p → (k : Answer → Answer) → readFrom s at k ≡ refused f p
+  broken-so {f} {p} z = go (rw z at d)
+    where
+      go : HeadsTold s at (heads.Broken f p) → (k : Answer → Answer) → readFrom s at k ≡ refused f p
+      go (unsound w) = w
+
+  pub plain-broken : (a : List ℕ) {f : Fault} {p : ℕ} → h ≡ heads.Broken f p → Reads [] a a 0 (readFrom s at (λ x. x)) (Refused f p)
+  plain-broken a z = rw (broken-so z (λ x. x)) (falls refl)
+
+  module _ {from to start stop : ℕ} (z : h ≡ heads.Are from to start stop) where
+    heads-so : HeadsAre s at from to start stop
+    heads-so = go (rw z at d)
+      where
+        go : HeadsTold s at (heads.Are from to start stop) → HeadsAre s at from to start stop
+        go (sound w) = w
+
+    pub heads-framing : {b : List ℕ} → length s ≤ 32768 → 131072 ≤ length b → Framing s start stop b
+    heads-framing l w = let x = heads-so in record { low = x .low; high = x .high; small = l; wide = w; fs = x .fs; chain = x .chain }
+
+    pub heads-from : 4 ≤ from
+    heads-from = omega (arith, heads-so .first)
+
+    pub heads-order : from ≤ to
+    heads-order = heads-so .order
+
+    pub heads-next : to + 4 ≤ start
+    heads-next = heads-so .next
+
+    module _ {a b : List ℕ} {r : Outcome} (q : PartsRead s from to start stop a b r) where
+      parts-so : Reads [] a b 0 (readParts s (heads-so .info) (heads-so .main) (heads-so .fs)) r
+      parts-so = let x = heads-so in q .is (x .info) (x .main) (x .fs) (x .info-from) (x .info-to) (x .main-from) (x .main-to) (x .chain)
+
+      pub plain-read : Reads [] a b 0 (readFrom s at (λ x. x)) r
+      plain-read = rw (heads-so .is (λ x. x)) parts-so
+
+-- whether the first record is 0005
+pub first-kind : (s : List ℕ) {x y n : ℕ} → x ≡ getD (slice 0 (length s) s) 2 0 → y ≡ getD (slice 0 (length s) s) 3 0 → n ≡ x + 256 * y → eqb n 5 ≡ hasDir s
+first-kind s x y n = let w : slice 0 (length s) s ≡ s = take-length s in rw (n, x, y, w) refl
+
+-- EF.DIR and the others
+module _ {s : List ℕ} {a e : ℕ} (f : DirFirst s a e) {h : Heads} (d : HeadsTold s e h) where
+  pub behind-broken : (b : List ℕ) {x : Fault} {p : ℕ} → h ≡ heads.Broken x p → Reads [] b b 0 (readDump s) (Refused x p)
+  behind-broken b z = rw (f .is, broken-so d z (λ x. onRes (dir s e a) (λ es _. andAlso es x))) (falls refl)
+
+  module _ {from to start stop : ℕ} (z : h ≡ heads.Are from to start stop) where
+    abbrev others : Answer
+    others = let x = heads-so d z in readParts s (x .info) (x .main) (x .fs)
+
+    behind-so : readDump s ≡ onRes (dir s e a) (λ es _. andAlso es others)
+    behind-so = f .is ∙ heads-so d z .is (λ x. onRes (dir s e a) (λ es _. andAlso es x))
+
+    -- EF.DIR is refused
+    dir-fell : {b c : List ℕ} {o : ℕ} {w : Part} → Did b c o a e (dir s e a) w → {x : Fault} {p : ℕ} → w ≡ Fails x p → readDump s ≡ refused x p
+    dir-fell {b} {c} {o} u {x} {p} y = behind-so ∙ go (rw y at u)
+      where
+        go : {v : Res} → Did b c o a e v (Fails x p) → onRes v (λ es _. andAlso es others) ≡ refused x p
+        go (fell _) = refl
+
+    module _ {w : Part} (j : Judged a e (dir s e a) w) where
+      pub behind-dir : (b : List ℕ) {x : Fault} {p : ℕ} → w ≡ Fails x p → Reads [] b b 0 (readDump s) (Refused x p)
+      behind-dir b y = rw (dir-fell (j .is) y) (falls refl)
+
+      module _ {m t : ℕ} (y : w ≡ Took m t) {b c : List ℕ} {r : Outcome} (q : PartsRead s from to start stop b c r) where
+        pub behind-others : {x : Fault} {p : ℕ} → r ≡ Refused x p → Reads [] b c 0 (readDump s) (Refused x p)
+        behind-others {x} {p} v = let u = did-open (rw y at (j .is)) in rw (behind-so, u .2) (go (u .0) (rw v at (parts-so d z q)))
+          where
+            go : {g : Answer} (es : List Rec) → Reads [] b c 0 g (Refused x p) → Reads [] b c 0 (andAlso es g) (Refused x p)
+            go es (falls l) = falls l
+
+        module _ (wide : 131072 ≤ length b) {n : ℕ} (v : r ≡ Accepted n) where
+          -- the others' records are put from the start on
+          record OthersRead : Type 0 where
+            rs : List Rec
+            is : others ≡ accepted rs
+            put : Put b c 0 n (encode rs)
+
+          others-read : OthersRead
+          others-read = go others refl (rw v at (parts-so d z q))
+            where
+              go : (g : Answer) → others ≡ g → Reads [] b c 0 g (Accepted n) → OthersRead
+              go _ l (reads rs p _) = record { rs = rs; is = l; put = p }
+
+          -- all of them are few
+          whole : {es : List Rec} {ms : List ℕ} {i : ℕ} → dir s e a ≡ took es ms i → (readDump s ≡ accepted (others-read .rs ++ es)) × (n + length (encode es) ≤ 131072)
+          whole {es} l =
+              let x = others-read in
+              let g : readDump s ≡ accepted (x .rs ++ es) = behind-so ∙ rw (l, x .is) refl in
+              (g, omega (arith, f .small, x .put .at, rw (encode-append (x .rs) es, length-append (encode (x .rs)) (encode es)) at (book-bound s (x .rs ++ es) (f .bytes) g)))
+
+          pub behind-room : n + 4 ≤ 8 * a + 131072
+          behind-room = omega (arith, f .first, whole (did-open (rw y at (j .is)) .2) .1)
+
+          pub behind-small : n ≤ 8 * a + 131072
+          behind-small = omega (arith, behind-room)
+
+          module _ {g : List ℕ} {u : Part} (k : Did c g n a e (dir s e a) u) where
+            pub behind-fell : {x : Fault} {p : ℕ} → u ≡ Fails x p → Reads [] b g 0 (readDump s) (Refused x p)
+            behind-fell l = rw (dir-fell k l) (falls (did-same k ∙ put-length (others-read .put)))
+
+            pub behind-read : {i o : ℕ} → u ≡ Took i o → Reads [] b g 0 (readDump s) (Accepted o)
+            behind-read {i} {o} l =
+                let x = others-read in
+                let w = did-open (rw l at k) in
+                let t = whole (w .2) in
+                rw (t .0) (reads (x .rs ++ w .0) (put-then (x .put) (w .3) (sym (encode-append (x .rs) (w .0)))) (omega (arith, t .1, w .3 .at)))
+
+-- the whole dump
 module _ (s : List ℕ) where
   pub into-long : {a : List ℕ} → 32768 < length s → Reads [] a a 0 (readDump s) (Refused DumpSize 0)
   unfolding readDump
   into-long h = rw (lt-leb (length s) 32768 h) (falls refl)
 
-  module _ (small : length s ≤ 32768) {x : Framed} (e : frame s 1 0 ≡ framedAs 0 x) where
-    pub into-first : {a : List ℕ} {f : Fault} {p : ℕ} → x ≡ file.Broken f p → Reads [] a a 0 (readDump s) (Refused f p)
+  module _ (small : length s ≤ 32768) {t : Bool} (k : t ≡ hasDir s) where
+    pub into-plain : {a b : List ℕ} {r : Outcome} → t ≡ false → Reads [] a b 0 (readFrom s 0 (λ x. x)) r → Reads [] a b 0 (readDump s) r
     unfolding readDump
-    into-first z = rw (le-leb (length s) 32768 small, e, z) (falls refl)
+    into-plain z q = rw (le-leb (length s) 32768 small, sym k ∙ z) q
 
-    module _ {k n from to : ℕ} (z : x ≡ file.File k n from to) {y : Framed} (d : frame s 2 to ≡ framedAs to y) where
-      pub into-second : {a : List ℕ} {f : Fault} {p : ℕ} → y ≡ file.Broken f p → Reads [] a a 0 (readDump s) (Refused f p)
+    module _ (z : t ≡ true) {x : Framed} (e : frame s 5 0 ≡ framedAs 0 x) where
+      pub into-broken : {a : List ℕ} {f : Fault} {p : ℕ} → x ≡ file.Broken f p → Reads [] a a 0 (readDump s) (Refused f p)
       unfolding readDump
-      into-second v = rw (le-leb (length s) 32768 small, e, z, d, v) (falls refl)
+      into-broken v = rw (le-leb (length s) 32768 small, sym k ∙ z, e, v) (falls refl)
 
-      module _ {l m start stop : ℕ} (v : y ≡ file.File l m start stop) {g : Chain} (t : FramesTold s stop g) where
-        pub into-chain : {a : List ℕ} {f : Fault} {p : ℕ} → g ≡ Unsound f p → Reads [] a a 0 (readDump s) (Refused f p)
-        unfolding readDump
-        into-chain {a} {f} {p} u = rw (le-leb (length s) 32768 small, e, z, d, v, t .unsound f p u) (falls refl)
-
-        pub into-parts : {a b : List ℕ} {r : Outcome} → g ≡ Sound → PartsRead s from to start stop a b r → Reads [] a b 0 (readDump s) r
-        unfolding readDump
-        into-parts u q = let w = t .sound u in rw (le-leb (length s) 32768 small, e, z, d, v, w .1) (q .is _ _ (w .0) refl refl refl refl (w .1))
-
-        pub into-framing : {b : List ℕ} → g ≡ Sound → 131072 ≤ length b → Inner s to y → Framing s start stop b
-        into-framing u h i = let w = t .sound u in record { low = inner-mid i v; high = inner-high i v; small = small; wide = h; fs = w .0; chain = w .1 }
+-- EF.DIR is there
+pub into-behind : (s : List ℕ) → Bytes s → length s ≤ 32768 → {t : Bool} → t ≡ hasDir s → t ≡ true → {x : Framed} → frame s 5 0 ≡ framedAs 0 x → {l n from to : ℕ} → x ≡ file.File l n from to → Inner s 0 x → DirFirst s from to
+unfolding readDump
+into-behind s bytes small k z e v i = record { bytes = bytes; is = rw (le-leb (length s) 32768 small, sym k ∙ z, e, v) refl; first = omega (arith, inner-low i v); order = inner-mid i v; inside = inner-high i v; small = small }

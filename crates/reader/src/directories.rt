@@ -4,7 +4,7 @@ use crate::linear::file_of;
 use files::next_name;
 use objects::Many;
 use rules::word;
-ghost use Prim.Native.Nat.{_*_, _≤_};
+ghost use Prim.Native.Nat.{_+_, _*_, _≤_};
 ghost use lib.ListN.{length};
 ghost use Rattle.files.specs.Scan.{Holds};
 ghost use Rattle.reader.specs.Twelve.{Sound};
@@ -21,7 +21,7 @@ pub fn directories(
     o: usize,
     marks: &mut [u32],
 ) -> Many
-    requires { ⌜ Holds (now out) i end × Sound (now s) at × (at ≤ length (now s)) × (length (now s) ≤ 32768) × (k ≤ 128) × (end ≤ o) × (o ≤ 8 * at) ⌝ }
+    requires { ⌜ Holds (now out) i end × Sound (now s) at × (at ≤ length (now s)) × (length (now s) ≤ 32768) × (k ≤ 128) × (end ≤ o) × (o ≤ 8 * at + 131072) ⌝ }
     ensures { λ r. ⌜ FilesTold (now (s .entry)) at (now (out .entry)) (now (out .exit)) (now (marks .entry)) (now (marks .exit)) i end o k r ⌝ }
 {
     let mut j = next_name(out, i, end);

@@ -14,11 +14,16 @@ use files::object_directory;
 use objects::Many;
 use objects::Part;
 use rules::Outcome;
+use rules::byte_at;
+use rules::of_two;
+use templates::dir;
+ghost use mathlib.Core.Path.{_≡_};
 ghost use mathlib.Core.List.{[]};
 ghost use Prim.Native.Nat.{_+_, _*_, _≤_};
 ghost use lib.ListN.{length};
-ghost use Rattle.rules.specs.Files.{readDump};
-ghost use Rattle.reader.specs.Stages.{Reads, Framing, Opened, FilesRead, EntriesRead, PartsRead};
+ghost use Rattle.rules.specs.Files.{dir, hasDir, readFrom, readDump};
+ghost use Rattle.objects.specs.Did.{InContainer};
+ghost use Rattle.reader.specs.Stages.{Reads, Framing, Opened, FilesRead, EntriesRead, PartsRead, HeadsTold, Judged, DirFirst};
 
 // 12, the files in turn, 13: EF.OD up to `stop` has the records that the book has from i to end, with k objects, whose places are in marks; `again` is the place of its first entry that names a path once more, 0 if none does.
 fn read_files(
@@ -93,6 +98,76 @@ fn read_parts(
     }
 }
 
+// The files that every dump has: where CIAInfo's starts and ends, and EF.OD's; or a refusal and its place.
+pub enum Heads {
+    Are(usize, usize, usize, usize),
+    Broken(Fault, usize),
+}
+
+// All frames from CIAInfo's on.
+fn all_framed(s: &[u8], at: usize) -> Heads
+    requires { ⌜ (at ≤ length (now s)) × (length (now s) ≤ 32768) ⌝ }
+    ensures { λ r. ⌜ HeadsTold (now (s .entry)) at r ⌝ }
+{
+    match frame(s, 1, at) {
+        Framed::Broken(f, p) => Heads::Broken(f, p),
+        Framed::File(_, _, from, to) => match frame(s, 2, to) {
+            Framed::Broken(f, p) => Heads::Broken(f, p),
+            Framed::File(_, _, start, stop) => match frames(s, stop) {
+                Chain::Unsound(f, p) => Heads::Broken(f, p),
+                Chain::Sound => Heads::Are(from, to, start, stop),
+            },
+        },
+    }
+}
+
+// A dump without EF.DIR.
+fn read_plain(s: &[u8], out: &mut [u8]) -> Outcome
+    requires { ⌜ (length (now s) ≤ 32768) × (131072 ≤ length (now out)) ⌝ }
+    ensures { λ r. ⌜ Reads [] (now (out .entry)) (now (out .exit)) 0 (readFrom (now (s .entry)) 0 (λ x. x)) r ⌝ }
+{
+    match all_framed(s, 0) {
+        Heads::Broken(f, p) => Outcome::Refused(f, p),
+        Heads::Are(from, to, start, stop) => read_parts(s, from, to, start, stop, out),
+    }
+}
+
+// EF.DIR from a to e, read for its refusal alone.
+fn judged(s: &[u8], a: usize, e: usize) -> Part
+    requires { ⌜ InContainer (now s) e a 4 ⌝ }
+    ensures { λ r. ⌜ Judged a e (dir (now (s .entry)) e a) r ⌝ }
+{
+    let mut none = [0u8; 1];
+    dir(s, e, a, &mut none, 0)
+}
+
+// A dump with EF.DIR, from a to e: "EF.DIR is read before CIAInfo", "Its book records .. come after all others".
+fn read_behind(s: &[u8], a: usize, e: usize, out: &mut [u8]) -> Outcome
+    requires { ⌜ DirFirst (now s) a e × (131072 ≤ length (now out)) ⌝ }
+    ensures { λ r. ⌜ Reads [] (now (out .entry)) (now (out .exit)) 0 (readDump (now (s .entry))) r ⌝ }
+{
+    match all_framed(s, e) {
+        Heads::Broken(f, p) => Outcome::Refused(f, p),
+        Heads::Are(from, to, start, stop) => match judged(s, a, e) {
+            Part::Fails(f, p) => Outcome::Refused(f, p),
+            Part::Took(_, _) => match read_parts(s, from, to, start, stop, out) {
+                Outcome::Refused(f, p) => Outcome::Refused(f, p),
+                Outcome::Accepted(n) => match dir(s, e, a, out, n) {
+                    Part::Fails(f, p) => Outcome::Refused(f, p),
+                    Part::Took(_, q) => Outcome::Accepted(q),
+                },
+            },
+        },
+    }
+}
+
+// Whether the first record is 0005.
+fn has_dir(s: &[u8]) -> bool
+    ensures { λ r. ⌜ r ≡ hasDir (now (s .entry)) ⌝ }
+{
+    of_two(byte_at(s, 0, s.len(), 2), byte_at(s, 0, s.len(), 3)) == 5
+}
+
 // A dump into a book: "1; all frames; CIAInfo; EF.OD; 12; files in turn; 13".
 pub fn read_into(s: &[u8], out: &mut [u8]) -> Outcome
     requires { ⌜ 131072 ≤ length (now out) ⌝ }
@@ -101,14 +176,15 @@ pub fn read_into(s: &[u8], out: &mut [u8]) -> Outcome
     if 32768 < s.len() {
         return Outcome::Refused(Fault::DumpSize, 0);
     }
-    match frame(s, 1, 0) {
-        Framed::Broken(f, p) => Outcome::Refused(f, p),
-        Framed::File(_, _, from, to) => match frame(s, 2, to) {
-            Framed::Broken(f, p) => Outcome::Refused(f, p),
-            Framed::File(_, _, start, stop) => match frames(s, stop) {
-                Chain::Unsound(f, p) => Outcome::Refused(f, p),
-                Chain::Sound => read_parts(s, from, to, start, stop, out),
-            },
-        },
+    if has_dir(s) {
+        match frame(s, 5, 0) {
+            Framed::Broken(f, p) => {
+                return Outcome::Refused(f, p);
+            }
+            Framed::File(_, _, a, e) => {
+                return read_behind(s, a, e, out);
+            }
+        }
     }
+    read_plain(s, out)
 }

@@ -54,7 +54,7 @@ fn linear(
     o: usize,
     marks: &mut [u32],
 ) -> Many
-    requires { ⌜ (k ≤ 128) × Fit (now s) end at × (o + 4 ≤ 8 * at) × InContainer (now s) end at o ⌝ }
+    requires { ⌜ (k ≤ 128) × Fit (now s) end at × (o + 4 ≤ 8 * at + 131072) × InContainer (now s) end at o ⌝ }
     ensures { λ r. ⌜ DidObjects (now (out .entry)) (now (out .exit)) (now (marks .entry)) (now (marks .exit)) o at end k (linear (now (s .entry)) entry k end at) r ⌝ }
 {
     let q = put_bare(out, o, 0x0119);
@@ -73,7 +73,7 @@ pub fn file_of(
     o: usize,
     marks: &mut [u32],
 ) -> Many
-    requires { ⌜ (k ≤ 128) × Sorted (now s) kind end at × (o + 4 ≤ 8 * at) × InContainer (now s) end at o ⌝ }
+    requires { ⌜ (k ≤ 128) × Sorted (now s) kind end at × (o + 4 ≤ 8 * at + 131072) × InContainer (now s) end at o ⌝ }
     ensures { λ r. ⌜ DidObjects (now (out .entry)) (now (out .exit)) (now (marks .entry)) (now (marks .exit)) o at end k (byKind (now (s .entry)) kind entry k end at) r ⌝ }
 {
     if kind == 3 {

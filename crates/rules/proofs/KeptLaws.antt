@@ -6,14 +6,14 @@ use mathlib.Core.List.{List, [], _∷_, _++_}
 use native.Mathlib.Omega.{arith}
 use lib.ListN.{length, getD, take}
 use Rattle.elements.specs.Put.{Put}
-use Rattle.elements.specs.PutLaws.{put-none, put-then, put-length}
+use Rattle.elements.specs.PutLaws.{put-none, put-put, put-then, put-length}
 use Rattle.rules.specs.declared.table.Need.{Need}
 use Rattle.rules.specs.declared.table.Need.the-variants.{Required, Optional, Default}
 use Rattle.rules.specs.declared.table.Row.{Row}
 use Rattle.rules.specs.declared.table.Sequence.{Sequence}
-use Rattle.rules.specs.declared.table.Sequence.the-variants.{Info, Common, Rule, Key, CertificateAttributes, Authentication, PrivateKeyAttributes, PasswordAttributes, Path}
+use Rattle.rules.specs.declared.table.Sequence.the-variants.{Info, Common, Rule, Key, CertificateAttributes, Authentication, PrivateKeyAttributes, PasswordAttributes, Path, Template, Discretionary, OdfPath, InfoPath}
 use Rattle.rules.specs.Parts.{unlessRequired, keptOut}
-use Rattle.rules.specs.Tables.{rowsOf, noRow, beside}
+use Rattle.rules.specs.Tables.{rowsOf, noRow, beside, keptOf}
 
 -- a table has at most eight rows
 pub few : (q : Sequence) → length (rowsOf q) ≤ 8
@@ -26,6 +26,10 @@ few Authentication = omega arith
 few PrivateKeyAttributes = omega arith
 few PasswordAttributes = omega arith
 few Path = omega arith
+few Template = omega arith
+few Discretionary = omega arith
+few OdfPath = omega arith
+few InfoPath = omega arith
 
 -- one component's tag, by its need
 module _ {need : Need} (tag : ℕ) where
@@ -42,8 +46,31 @@ module _ {need : Need} (tag : ℕ) where
 pub beside-none : (x : Sequence) → beside x ≡ [] → {q : Sequence} (a : List ℕ) → q ≡ x → Put a a 0 0 (beside q)
 beside-none x z a e = rw (e, z) (put-none a 0)
 
-pub beside-one : (x : Sequence) → beside x ≡ 0x30 ∷ [] → {q : Sequence} {a c : List ℕ} {r : ℕ} → q ≡ x → Put a c 0 r (0x30 ∷ []) → Put a c 0 r (beside q)
-beside-one x z e f = rw (e, z) f
+pub beside-one : (x : Sequence) (t : ℕ) → beside x ≡ t ∷ [] → {q : Sequence} {a c : List ℕ} {r : ℕ} → q ≡ x → Put a c 0 r (t ∷ []) → Put a c 0 r (beside q)
+beside-one x t z e f = rw (e, z) f
+
+pub beside-four : {q : Sequence} {a b c d e : List ℕ} {i j k r : ℕ} → q ≡ Discretionary → Put a b 0 i (0x06 ∷ []) → Put b c i j (0x30 ∷ []) → Put c d j k (0xa0 ∷ []) → Put d e k r (0x31 ∷ []) → Put a e 0 r (beside q)
+beside-four z f g h i = rw z (put-then f (put-then g (put-then h i refl) refl) refl)
+
+-- the tags that are kept out are nine at most
+few-kept : (q : Sequence) {a c : List ℕ} {r : ℕ} → Put a c 0 r (keptOf q) → r ≤ 9
+few-kept Info f = omega (arith, f .at)
+few-kept Common f = omega (arith, f .at)
+few-kept Rule f = omega (arith, f .at)
+few-kept Key f = omega (arith, f .at)
+few-kept CertificateAttributes f = omega (arith, f .at)
+few-kept Authentication f = omega (arith, f .at)
+few-kept PrivateKeyAttributes f = omega (arith, f .at)
+few-kept PasswordAttributes f = omega (arith, f .at)
+few-kept Path f = omega (arith, f .at)
+few-kept Template f = omega (arith, f .at)
+few-kept Discretionary f = omega (arith, f .at)
+few-kept OdfPath f = omega (arith, f .at)
+few-kept InfoPath f = omega (arith, f .at)
+
+-- both
+pub kept-both : (q : Sequence) {a b c : List ℕ} {n r : ℕ} → Put a b 0 n (beside q) → Put b c n r (keptOut (rowsOf q)) → r ≤ 9
+kept-both q f g = few-kept q (put-put f g)
 
 -- one row more
 unless-length : (need : Need) (tag : ℕ) → length (unlessRequired need tag []) ≤ 1
@@ -72,22 +99,19 @@ pub record Keeping (q : Sequence) (a c : List ℕ) (o last k n : ℕ) : Type 0 w
   pub put : Put a c o n (keptOut (take k (rowsOf q)))
   pub all : last ≡ length (rowsOf q)
   pub upto : k ≤ last
-  pub low : o ≤ 1
+  pub low : o ≤ 4
   pub size : n ≤ o + k
   pub same : length c ≡ length a
 
-pub keeping-start : (q : Sequence) (a : List ℕ) (o last : ℕ) → o ≤ 1 → last ≡ length (rowsOf q) → Keeping q a a o last 0 o
+pub keeping-start : (q : Sequence) (a : List ℕ) (o last : ℕ) → o ≤ 4 → last ≡ length (rowsOf q) → Keeping q a a o last 0 o
 keeping-start q a o last h e = record { put = put-none a o; all = e; upto = omega arith; low = h; size = omega arith; same = refl }
 
 module _ {q : Sequence} {a c : List ℕ} {o last k n : ℕ} (h : Keeping q a c o last k n) where
   pub keeping-inside : k < last → k < length (rowsOf q)
   keeping-inside l = omega (arith, h .all)
 
-  pub keeping-few : n ≤ 9
-  keeping-few = omega (arith, h .size, h .low, h .upto, h .all, few q)
-
   pub keeping-low : n < 256
-  keeping-low = omega (arith, keeping-few)
+  keeping-low = omega (arith, h .size, h .low, h .upto, h .all, few q)
 
   pub keeping-next : {r : Row} {d : List ℕ} {m : ℕ} → k < last → r ≡ getD (rowsOf q) k noRow → Put c d n m (unlessRequired (r .need) (r .tag) []) → Keeping q a d o last (k + 1) m
   keeping-next {r} {d} {m} l e f =

@@ -3,7 +3,7 @@ use Prim.Native.Nat.{ℕ}
 use mathlib.Core.List.{List, [], _∷_, _++_}
 use mathlib.Core.Bool.{Bool, true, false, not, _||_, _&&_}
 use mathlib.Core.Path.{_≡_, refl}
-use lib.Dec.{eqb, T}
+use lib.Dec.{leb, eqb, T}
 use borrow.Author.Tests.{eqb-true}
 use Rattle.elements.specs.Sealed.{among}
 use Rattle.rules.specs.declared.table.Class.{Class}
@@ -16,34 +16,38 @@ use Rattle.rules.specs.Kinds.{Among, none-there, there}
 use Rattle.rules.specs.Layout.{Layout, maybe}
 use Rattle.rules.specs.Layouts as layouts
 
--- an object's records reach up to the next 0120, 0110, 0107, 0118, 0119, 011A or the end
+-- an object's records reach up to the next 0120, 0110, 0107, 0118, 0119, 011A, EF.DIR's 0200 or the end
 abbrev pub closing : ℕ → Bool
-closing k = among k (0x0120 ∷ 0x0110 ∷ 0x0107 ∷ 0x0118 ∷ 0x0119 ∷ 0x011a ∷ [])
+closing k = among k (0x0120 ∷ 0x0110 ∷ 0x0107 ∷ 0x0118 ∷ 0x0119 ∷ 0x011a ∷ []) || leb 0x0200 k
 
 -- none of these records closes an object
 abbrev pub inner : List Rec → Bool
 inner [] = true
 inner (r ∷ rs) = not (closing (r .kind)) && inner rs
 
+-- a test of every kind
+abbrev pub every : (ℕ → Bool) → List ℕ → Bool
+every f [] = true
+every f (k ∷ ks) = f k && every f ks
+
 abbrev pub openKinds : List ℕ → Bool
-openKinds [] = true
-openKinds (k ∷ ks) = not (closing k) && openKinds ks
+openKinds = every (λ k. not (closing k))
 
 both : (a b : Bool) → T a → T b → T (a && b)
 both true b t u = u
 both false b t u = t
 
-open-kind : (k : ℕ) (ks : List ℕ) → T (openKinds ks) → T (among k ks) → T (not (closing k))
-open-kind k [] t h = absurd h
-open-kind k (x ∷ ks) t h = go (eqb k x) refl h (open-kind k ks (and-right (not (closing x)) (openKinds ks) t))
+pub every-kind : (f : ℕ → Bool) (k : ℕ) (ks : List ℕ) → T (every f ks) → T (among k ks) → T (f k)
+every-kind f k [] t h = absurd h
+every-kind f k (x ∷ ks) t h = go (eqb k x) refl h (every-kind f k ks (and-right (f x) (every f ks) t))
   where
-    go : (b : Bool) → eqb k x ≡ b → T (b || among k ks) → (T (among k ks) → T (not (closing k))) → T (not (closing k))
-    go true e h u = rw (eqb-true k x e) (and-left (not (closing x)) (openKinds ks) t)
+    go : (b : Bool) → eqb k x ≡ b → T (b || among k ks) → (T (among k ks) → T (f k)) → T (f k)
+    go true e h u = rw (eqb-true k x e) (and-left (f x) (every f ks) t)
     go false e h u = u h
 
 inner-among : (ks : List ℕ) → T (openKinds ks) → {rs : List Rec} → Among ks rs → T (inner rs)
 inner-among ks t none-there = tt
-inner-among ks t (there {r = r} {rs = rs} h g) = both (not (closing (r .kind))) (inner rs) (open-kind (r .kind) ks t h) (inner-among ks t g)
+inner-among ks t (there {r = r} {rs = rs} h g) = both (not (closing (r .kind))) (inner rs) (every-kind (λ k. not (closing k)) (r .kind) ks t h) (inner-among ks t g)
 
 inner-append : (rs ss : List Rec) → T (inner rs) → T (inner ss) → T (inner (rs ++ ss))
 inner-append [] ss h g = g

@@ -9,12 +9,12 @@ use Rattle.elements.specs.Record.{recordBytes}
 use Rattle.elements.specs.Lists.{Bytes}
 use Rattle.rules.specs.Book.{laid, recordsOf, records}
 use Rattle.rules.specs.Files.{Name, namesPath, namesOf}
-use Rattle.rules.specs.Render.{Renderer, rCia, rOd, rDirectory, rRecordIn, rLinear, framing, rNamed, rFile, rDirectories, used, render}
+use Rattle.rules.specs.Render.{Renderer, rCia, rOd, rDirectory, rRecordIn, rLinear, framing, rFramed, rNamed, rFile, rDirectories, rDir, when, used, render}
 use Rattle.rules.specs.Layouts as layouts
 use Rattle.rules.specs.Layouts.{cia-fine}
 use Rattle.rules.specs.FileLayouts as filing
-use Rattle.rules.specs.FileLayouts.{od-fine, directory-fine, record-fine}
-use Rattle.rules.specs.Bytewise.{AllB, Outs, out, PayB, b-append, b-drop, b-get, lengthed-b, either-b, from-b, all-b}
+use Rattle.rules.specs.FileLayouts.{od-fine, directory-fine, record-fine, dir-fine}
+use Rattle.rules.specs.Bytewise.{AllB, Outs, out, PayB, b-append, b-drop, b-get, nothing-b, next-b, when-b, lengthed-b, either-b, from-b, all-b}
 
 cia-b : Outs rCia
 cia-b = layouts.cia .lawful cia-fine .clean
@@ -56,12 +56,18 @@ file-b : (path : List ℕ) → AllB path → Outs (rFile path)
 unfolding rFile
 file-b path h = either-b (0x0118 ∷ []) (named-b 3 path h directory-b) (named-b 4 path h linear-b)
 
-directories-b : (ns : List Name) (rs : List Rec) → NamesB ns → PayB rs → AllB (rDirectories ns rs)
+directories-b : (ns : List Name) → NamesB ns → Outs (rDirectories ns)
 unfolding rDirectories
-directories-b [] rs h g = tt
-directories-b (n ∷ ns) rs h g =
-    let x = file-b (n .path) (h .0) rs g in
-    b-append (rFile (n .path) rs .bytes) (rDirectories ns (rFile (n .path) rs .left)) (x .bytes) (directories-b ns (rFile (n .path) rs .left) (h .1) (x .left))
+directories-b [] h = nothing-b
+directories-b (n ∷ ns) h = next-b (file-b (n .path) (h .0)) (directories-b ns (h .1))
+
+dir-b : Outs rDir
+unfolding rDir
+dir-b = filing.dir .lawful dir-fine .clean
+
+-- a file in its record
+framed-b : (kind : ℕ) {q : Renderer} → Outs q → Outs (rFramed kind q)
+framed-b kind {q} f rs h = let x = f rs h in out (framing-b kind (q rs .bytes) (x .bytes)) (x .left)
 
 pay-take : (n : ℕ) (rs : List Rec) → PayB rs → PayB (take n rs)
 pay-take zero rs h = tt
@@ -73,12 +79,16 @@ unfolding render
 render-b rs h =
     let c = cia-b rs h in
     let o = od-b (rCia rs .left) (c .left) in
-    b-append (framing 1 (rCia rs .bytes)) (framing 2 (rOd (rCia rs .left) .bytes) ++ rDirectories (namesOf (used (rCia rs .left) (rOd (rCia rs .left) .left))) (rOd (rCia rs .left) .left))
+    let ns = namesOf (used (rCia rs .left) (rOd (rCia rs .left) .left)) in
+    let n = names-b (used (rCia rs .left) (rOd (rCia rs .left) .left)) (pay-take (length (rCia rs .left) - length (rOd (rCia rs .left) .left)) (rCia rs .left) (c .left)) in
+    let d = directories-b ns n (rOd (rCia rs .left) .left) (o .left) in
+    let x = when-b (0x0200 ∷ []) (framed-b 5 dir-b) (rDirectories ns (rOd (rCia rs .left) .left) .left) (d .left) in
+    b-append (when (0x0200 ∷ []) (rFramed 5 rDir) (rDirectories ns (rOd (rCia rs .left) .left) .left) .bytes) (framing 1 (rCia rs .bytes) ++ (framing 2 (rOd (rCia rs .left) .bytes) ++ rDirectories ns (rOd (rCia rs .left) .left) .bytes)) (x .bytes)
+    (b-append (framing 1 (rCia rs .bytes)) (framing 2 (rOd (rCia rs .left) .bytes) ++ rDirectories ns (rOd (rCia rs .left) .left) .bytes)
     (framing-b 1 (rCia rs .bytes) (c .bytes))
-    (b-append (framing 2 (rOd (rCia rs .left) .bytes)) (rDirectories (namesOf (used (rCia rs .left) (rOd (rCia rs .left) .left))) (rOd (rCia rs .left) .left))
+    (b-append (framing 2 (rOd (rCia rs .left) .bytes)) (rDirectories ns (rOd (rCia rs .left) .left) .bytes)
     (framing-b 2 (rOd (rCia rs .left) .bytes) (o .bytes))
-    (directories-b (namesOf (used (rCia rs .left) (rOd (rCia rs .left) .left))) (rOd (rCia rs .left) .left)
-    (names-b (used (rCia rs .left) (rOd (rCia rs .left) .left)) (pay-take (length (rCia rs .left) - length (rOd (rCia rs .left) .left)) (rCia rs .left) (c .left))) (o .left)))
+    (d .bytes)))
 
 -- the records of bytes have bytes
 b-take : (n : ℕ) (l : List ℕ) → AllB l → AllB (take n l)

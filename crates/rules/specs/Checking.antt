@@ -1,23 +1,24 @@
 -- What is checked of a path and of a password, and what it says of them.
-use Prim.Native.Nat.{ℕ, _/_, _%_}
+use Prim.Native.Nat.{ℕ, _+_, _/_, _%_}
 use mathlib.Core.List.{List, [], _∷_}
-use mathlib.Core.Bool.{Bool, true, false}
+use mathlib.Core.Bool.{Bool, true, false, _&&_}
 use mathlib.Core.Option.{Option, none, some}
-use mathlib.Core.Path.{_≡_, refl}
+use mathlib.Core.Path.{_≡_, refl, sym, _∙_}
 use native.Mathlib.Omega.{arith}
+use lib.ListN.{drop}
 use lib.Dec.{eqb, T}
-use borrow.Author.Tests.{eqb-false, ne-eqb}
+use borrow.Author.Tests.{eqb-false, eq-eqb, ne-eqb}
 use Rattle.elements.specs.declared.fault.Fault.{Fault}
-use Rattle.elements.specs.declared.fault.Fault.the-variants.{PathPair, PasswordFlags}
+use Rattle.elements.specs.declared.fault.Fault.the-variants.{Missing, PathPair, PasswordFlags}
 use Rattle.elements.specs.Choice.{choose}
 use Rattle.elements.specs.Put.{le32}
-use Rattle.rules.specs.Reading.{Rec, Res, took, fails, number}
+use Rattle.rules.specs.Reading.{Rec, rec, Res, took, fails, number}
 use Rattle.rules.specs.Parts.{keptOut}
-use Rattle.rules.specs.Tables.{pathRows, indexRow, lengthRow, passwordRows}
-use Rattle.rules.specs.Rulings.{has, same, paired, flagged}
+use Rattle.rules.specs.Tables.{pathRowsFrom, passwordRows, templateRows}
+use Rattle.rules.specs.Rulings.{has, same, paired, flagged, ours, unreached, reached}
 use Rattle.rules.specs.ValueLaws.{number-le32}
 use Rattle.rules.specs.FaultLaws.{ofReading}
-use Rattle.rules.specs.Grammar.{Part, _and_, optional, tagged, rest, fields}
+use Rattle.rules.specs.Grammar.{Part, _and_, optional, tagged, behind, rest, fields}
 use Rattle.rules.specs.Lawful.{Judges, passes, refuses, Checks}
 
 no-refusal : {A : Type 0} (f : Fault) (p : ℕ) (bs : List Rec) (ms : List ℕ) (n : ℕ) → fails f p ≡ took bs ms n → A
@@ -38,25 +39,43 @@ judge-not : (own : ℕ) (x : Fault) → T (ofReading x) → (w : Res) (b : Bool)
 judge-not own x t w true = refuses x t refl
 judge-not own x t w false = passes refl
 
-pub pairs : Checks (fields pathRows) paired (λ (p, (index, (len, _))). BothOrNeither index len)
-pairs = record {
-  fallen = λ own x p. refl;
-  judges = λ own bs ms n. judge own PathPair tt (took bs ms n) (same (has (indexRow .kind) bs) (has (lengthRow .kind) bs));
-  sound = λ own y m ms n e. sound own (y .0) (y .1 .0) (y .1 .1 .0) ms n e;
-  complete = λ own y m z ms n. complete own (y .0) (y .1 .0) (y .1 .1 .0) ms n z;
-}
-  where
-    sound : (own : ℕ) (p : List ℕ) (i l : Option ℕ) (ms : List ℕ) (n : ℕ) → paired own (took (fields pathRows .book (p, (i, (l, tt)))) ms n) ≡ took (fields pathRows .book (p, (i, (l, tt)))) ms n → BothOrNeither i l
-    sound own p none none ms n e = tt
-    sound own p none (some l) ms n e = no-refusal PathPair own (fields pathRows .book (p, (none, (some l, tt)))) ms n e
-    sound own p (some i) none ms n e = no-refusal PathPair own (fields pathRows .book (p, (some i, (none, tt)))) ms n e
-    sound own p (some i) (some l) ms n e = tt
+-- that a test of their records tells
+abbrev both : Option ℕ → Option ℕ → Bool
+both none none = true
+both none (some l) = false
+both (some i) none = false
+both (some i) (some l) = true
 
-    complete : (own : ℕ) (p : List ℕ) (i l : Option ℕ) (ms : List ℕ) (n : ℕ) → BothOrNeither i l → paired own (took (fields pathRows .book (p, (i, (l, tt)))) ms n) ≡ took (fields pathRows .book (p, (i, (l, tt)))) ms n
-    complete own p none none ms n e = refl
-    complete own p none (some l) ms n e = absurd e
-    complete own p (some i) none ms n e = absurd e
-    complete own p (some i) (some l) ms n e = refl
+both-is : (i l : Option ℕ) → both i l ≡ true → BothOrNeither i l
+both-is none none e = tt
+both-is none (some l) e = absurd (let z : _≡_ {A = ℕ} 0 1 = cc in omega arith)
+both-is (some i) none e = absurd (let z : _≡_ {A = ℕ} 0 1 = cc in omega arith)
+both-is (some i) (some l) e = tt
+
+is-both : (i l : Option ℕ) → BothOrNeither i l → both i l ≡ true
+is-both none none e = refl
+is-both none (some l) e = absurd e
+is-both (some i) none e = absurd e
+is-both (some i) (some l) e = refl
+
+tested : (k : ℕ) (p : List ℕ) (i l : Option ℕ) → same (has (k + 1) (fields (pathRowsFrom k) .book (p, (i, (l, tt))))) (has (k + 2) (fields (pathRowsFrom k) .book (p, (i, (l, tt))))) ≡ both i l
+tested k p none none = rw (ne-eqb k (k + 1) (omega arith), ne-eqb k (k + 2) (omega arith)) refl
+tested k p none (some l) = rw (ne-eqb k (k + 1) (omega arith), ne-eqb k (k + 2) (omega arith), ne-eqb (k + 2) (k + 1) (omega arith), eq-eqb (k + 2) (k + 2) refl) refl
+tested k p (some i) none = rw (ne-eqb k (k + 1) (omega arith), ne-eqb k (k + 2) (omega arith), ne-eqb (k + 1) (k + 2) (omega arith), eq-eqb (k + 1) (k + 1) refl) refl
+tested k p (some i) (some l) = rw (ne-eqb k (k + 1) (omega arith), ne-eqb k (k + 2) (omega arith), ne-eqb (k + 2) (k + 1) (omega arith), ne-eqb (k + 1) (k + 2) (omega arith), eq-eqb (k + 1) (k + 1) refl, eq-eqb (k + 2) (k + 2) refl) refl
+
+-- a test that lets pass says what is tested
+let-pass : (b : Bool) (f : Fault) (p : ℕ) (bs : List Rec) (ms : List ℕ) (n : ℕ) → choose b (λ _. took bs ms n) (λ _. fails f p) ≡ took bs ms n → b ≡ true
+let-pass true f p bs ms n e = refl
+let-pass false f p bs ms n e = no-refusal f p bs ms n e
+
+pub pairs : (k : ℕ) → Checks (fields (pathRowsFrom k)) (paired k) (λ (p, (index, (len, _))). BothOrNeither index len)
+pairs k = record {
+  fallen = λ own x p. refl;
+  judges = λ own bs ms n. judge own PathPair tt (took bs ms n) (same (has (k + 1) bs) (has (k + 2) bs));
+  sound = λ own y m ms n e. both-is (y .1 .0) (y .1 .1 .0) (sym (tested k (y .0) (y .1 .0) (y .1 .1 .0)) ∙ let-pass (same (has (k + 1) (fields (pathRowsFrom k) .book y)) (has (k + 2) (fields (pathRowsFrom k) .book y))) PathPair own (fields (pathRowsFrom k) .book y) ms n e);
+  complete = λ own y m z ms n. rw (tested k (y .0) (y .1 .0) (y .1 .1 .0), is-both (y .1 .0) (y .1 .1 .0) z) refl;
+}
 
 -- "pwdFlags bits 6 and 7 both set"
 abbrev pub passwordPart : Part → Part
@@ -81,3 +100,80 @@ flags path = record {
         choose b (λ _. fails PasswordFlags own) (λ _. took (passwordPart path .book y) ms n) ≡ took (passwordPart path .book y) ms n → y .0 .0 .0 / 64 % 4 ≡ 3 → ⊥
     sound own y m ms n true q e = no-refusal PasswordFlags own (passwordPart path .book y) ms n e
     sound own y m ms n false q e = rw (is y m) at (eqb-false (number (le32 (y .0 .0 .0)) / 64 % 4) 3 q)
+
+-- "5 where a template of ours has neither path nor 73"
+abbrev pub templatePart : Part → Part
+templatePart ddo = fields templateRows and optional (tagged 0x73 (behind ddo (λ _. rec 0x0205 []))) and rest 0x0210 (0x73 ∷ keptOut templateRows)
+
+abbrev pub Reached : {A B : Type 0} → Option A → Option B → Type 0
+Reached none none = ⊥
+Reached none (some y) = Unit {0}
+Reached (some x) none = Unit {0}
+Reached (some x) (some y) = Unit {0}
+
+abbrev pub OursReached : (ddo : Part) → templatePart ddo .Of → Type 0
+OursReached ddo (((aid, (label, (path, _))), inner), others) = ours aid ≡ true → Reached path inner
+
+-- that a test of its records tells
+abbrev lacksBoth : {A B : Type 0} → Option A → Option B → Bool
+lacksBoth none none = true
+lacksBoth none (some y) = false
+lacksBoth (some x) none = false
+lacksBoth (some x) (some y) = false
+
+lacks-reached : {A B : Type 0} (x : Option A) (y : Option B) → lacksBoth x y ≡ false → Reached x y
+lacks-reached none none e = absurd (let z : _≡_ {A = ℕ} 0 1 = cc in omega arith)
+lacks-reached none (some y) e = tt
+lacks-reached (some x) none e = tt
+lacks-reached (some x) (some y) e = tt
+
+reached-lacks : {A B : Type 0} (x : Option A) (y : Option B) → Reached x y → lacksBoth x y ≡ false
+reached-lacks none none e = absurd e
+reached-lacks none (some y) e = refl
+reached-lacks (some x) none e = refl
+reached-lacks (some x) (some y) e = refl
+
+reached-judges : (own : ℕ) (bs : List Rec) (ms : List ℕ) (n : ℕ) → Judges own (took bs ms n) (reached own (took bs ms n))
+reached-judges own [] ms n = passes refl
+reached-judges own (r ∷ bs) ms n = judge-not own Missing tt (took (r ∷ bs) ms n) (ours (r .pay) && unreached bs)
+
+module _ (ddo : Part) (aid : List ℕ) where
+  -- the records behind its 4F
+  abbrev behindAid : Option (List ℕ) → Option (List ℕ) → Option (ddo .Of) → List ℕ → List Rec
+  behindAid label path inner others = drop 1 (templatePart ddo .book (((aid, (label, (path, tt))), inner), others))
+
+  tells-both : (label path : Option (List ℕ)) (inner : Option (ddo .Of)) (others : List ℕ) → unreached (behindAid label path inner others) ≡ lacksBoth path inner
+  tells-both none (some p) none others = refl
+  tells-both none (some p) (some y) others = refl
+  tells-both none none (some y) others = refl
+  tells-both none none none [] = refl
+  tells-both none none none (x ∷ c) = refl
+  tells-both (some l) (some p) none others = refl
+  tells-both (some l) (some p) (some y) others = refl
+  tells-both (some l) none (some y) others = refl
+  tells-both (some l) none none [] = refl
+  tells-both (some l) none none (x ∷ c) = refl
+
+  passed : (test : Bool) (x y : Bool) → (ours aid && x) ≡ test → x ≡ y → (own : ℕ) (bs : List Rec) (ms : List ℕ) (n : ℕ) → choose test (λ _. fails Missing own) (λ _. took bs ms n) ≡ took bs ms n → ours aid ≡ true → y ≡ false
+  passed true x y q z own bs ms n e o = no-refusal Missing own bs ms n e
+  passed false x y q z own bs ms n e o = sym z ∙ rw o at q
+
+pub reaches : (ddo : Part) → Checks (templatePart ddo) reached (OursReached ddo)
+reaches ddo = record {
+  fallen = λ own x p. refl;
+  judges = reached-judges;
+  sound = λ own y m ms n e o. sound own (y .0 .0 .0) (y .0 .0 .1 .0) (y .0 .0 .1 .1 .0) (y .0 .1) (y .1) ms n e o;
+  complete = λ own y m z ms n. complete own (y .0 .0 .0) (y .0 .0 .1 .0) (y .0 .0 .1 .1 .0) (y .0 .1) (y .1) ms n z;
+}
+  where
+    sound : (own : ℕ) (aid : List ℕ) (label path : Option (List ℕ)) (inner : Option (ddo .Of)) (others : List ℕ) (ms : List ℕ) (n : ℕ) → reached own (took (templatePart ddo .book (((aid, (label, (path, tt))), inner), others)) ms n) ≡ took (templatePart ddo .book (((aid, (label, (path, tt))), inner), others)) ms n →
+        ours aid ≡ true → Reached path inner
+    sound own aid label path inner others ms n e o =
+        lacks-reached path inner (passed ddo aid (ours aid && unreached (behindAid ddo aid label path inner others)) (unreached (behindAid ddo aid label path inner others)) (lacksBoth path inner) refl (tells-both ddo aid label path inner others) own (templatePart ddo .book (((aid, (label, (path, tt))), inner), others)) ms n e o)
+
+    complete : (own : ℕ) (aid : List ℕ) (label path : Option (List ℕ)) (inner : Option (ddo .Of)) (others : List ℕ) (ms : List ℕ) (n : ℕ) → (ours aid ≡ true → Reached path inner) → reached own (took (templatePart ddo .book (((aid, (label, (path, tt))), inner), others)) ms n) ≡ took (templatePart ddo .book (((aid, (label, (path, tt))), inner), others)) ms n
+    complete own aid label path inner others ms n z = go (ours aid) refl
+      where
+        go : (b : Bool) → ours aid ≡ b → choose (b && unreached (behindAid ddo aid label path inner others)) (λ _. fails Missing own) (λ _. took (templatePart ddo .book (((aid, (label, (path, tt))), inner), others)) ms n) ≡ took (templatePart ddo .book (((aid, (label, (path, tt))), inner), others)) ms n
+        go true o = rw (tells-both ddo aid label path inner others, reached-lacks path inner (z o)) refl
+        go false o = refl

@@ -21,9 +21,9 @@ use Rattle.rules.specs.Reading.{count, number, Res, took, fails, _then_}
 use Rattle.rules.specs.Parts.{payload, component, rowBody, components, ended, element, repeat, rest, sealed}
 use Rattle.rules.specs.Tables.{sortBy, typeOf}
 use Rattle.rules.specs.Objects.{identified, condition}
-use Rattle.rules.specs.Files.{namesOf, filled, fill, namedPath, entryInside, entryBody, od, directory, recordIn, fits, linear, frameOf, fileIn, frame, namedFile, namedFrame, frames, firstAgain, entryPlace, follow, fileOf, directories, repeated, readFiles, readParts, readDump, Answer, accepted, refused}
+use Rattle.rules.specs.Files.{namesOf, filled, fill, namedPath, entryInside, entryBody, od, directory, recordIn, fits, linear, frameOf, fileIn, frame, namedFile, namedFrame, frames, firstAgain, entryPlace, follow, fileOf, directories, repeated, readFiles, readParts, dir, readFrom, readDump, Answer, accepted, refused}
 use Rattle.rules.specs.Book.{encode, recordsOf, records}
-use Rattle.rules.specs.Render.{unvalue, rRow, rRows, rKeep, rMany, rAll, rTimes, rInside, rEntryOf, rEntry, rFill, rOd, rDirectory, rRecordIn, rLinear, framing, rFile, rDirectories, render}
+use Rattle.rules.specs.Render.{unvalue, rRow, rRows, rKeep, rMany, rAll, rTimes, rInside, rEntryOf, rEntry, rFill, rOd, rDirectory, rRecordIn, rLinear, framing, rFile, rDirectories, rDir, render}
 use Rattle.rules.specs.Layouts as layouts
 use Rattle.rules.specs.Conditions as conditions
 use Rattle.rules.specs.Entries as entries
@@ -50,7 +50,7 @@ seenRes (took bs ms n) = book (encode bs)
 seenRes (fails f p) = refusal (numberOf f) p
 
 unfoldable pub answered : Asked → Seen
-unfolding leadingZeros header highTag further lengthAt long1 long2 long2Of fitted loop sealedRun boolean booleanBytes integer whole padded magnitude bare big spreadBy spread integerBytes told bits bitsOf weigh reversed width flagRun flagBytes text textFrom stepOf starts leadOf find time stated digits two dated clocked daysOf leap value null shortest wrap recordBytes count number payload component rowBody components ended element repeat rest sealed sortBy typeOf layouts.insides identified conditions.bodyBySort conditions.condition entries.object namesOf filled fill namedPath entryInside entryBody od directory recordIn fits linear frameOf fileIn frame namedFile namedFrame frames firstAgain entryPlace follow fileOf directories repeated readFiles readParts readDump encode recordsOf records unvalue rRow rRows rKeep rMany rAll rTimes rInside rEntryOf rEntry rFill rOd rDirectory rRecordIn rLinear framing rFile rDirectories render layouts.cia layouts.info
+unfolding leadingZeros header highTag further lengthAt long1 long2 long2Of fitted loop sealedRun boolean booleanBytes integer whole padded magnitude bare big spreadBy spread integerBytes told bits bitsOf weigh reversed width flagRun flagBytes text textFrom stepOf starts leadOf find time stated digits two dated clocked daysOf leap value null shortest wrap recordBytes count number payload component rowBody components ended element repeat rest sealed sortBy typeOf layouts.insides identified conditions.bodyBySort conditions.condition entries.object namesOf filled fill namedPath entryInside entryBody od directory recordIn fits linear frameOf fileIn frame namedFile namedFrame frames firstAgain entryPlace follow fileOf directories repeated readFiles readParts dir readFrom readDump encode recordsOf records unvalue rRow rRows rKeep rMany rAll rTimes rInside rEntryOf rEntry rFill rOd rDirectory rRecordIn rLinear framing rFile rDirectories rDir render layouts.cia layouts.info layouts.template layouts.discretionary layouts.pathFrom
 answered (reads d) = seen (readDump d)
 answered (renders b) = dump (render (records b))
 answered (readsCondition d) = seenRes (condition d 8 0 (length d) 0)

@@ -89,6 +89,10 @@ module _ (s : List ℕ) where
   unfoldable pub recordIn : ℕ → ℕ → Reader
   recordIn entry k = filing.recordIn entry .read s k
 
+  -- EF.DIR
+  unfoldable pub dir : Reader
+  dir = filing.dir .read s 0
+
   abbrev pub two : ℕ → ℕ
   two at = getD s at 0 + 256 * getD s (at + 1) 0
 
@@ -236,6 +240,11 @@ abbrev pub onRes : Res → (List Rec → List ℕ → Answer) → Answer
 onRes (took bs ms n) k = k bs ms
 onRes (fails f p) k = refused f p
 
+-- "Its book records .. come after all others"
+abbrev pub andAlso : List Rec → Answer → Answer
+andAlso es (accepted rs) = accepted (rs ++ es)
+andAlso es (refused f p) = refused f p
+
 abbrev pub onCheck : Check → (Unit {0} → Answer) → Answer
 onCheck fine k = k tt
 onCheck (wrongAt x p) k = refused x p
@@ -253,9 +262,17 @@ module _ (s : List ℕ) where
   unfoldable pub readParts : File → File → List File → Answer
   readParts c o fs = onRes (cia s (c .stop) (c .start)) (λ bs _. onRes (od s (o .stop) (o .start)) (λ cs ms. readFiles o fs bs cs ms))
 
-  -- "Order: 1; all frames; CIAInfo; EF.OD; 12; files in turn; 13"
+  -- all frames from CIAInfo's on, and then what they hold
+  unfoldable pub readFrom : ℕ → (Answer → Answer) → Answer
+  readFrom at k = onFramed (frame s 1 at) (λ c. onFramed (frame s 2 (c .stop)) (λ o. onFiles (frames s (length s) (o .stop)) (λ fs. k (readParts c o fs))))
+
+  -- "It stands as a dump record 0005, allowed once, before 0001"
+  abbrev pub hasDir : Bool
+  hasDir = eqb (two s 2) 5
+
+  -- "Order: 1; all frames; CIAInfo; EF.OD; 12; files in turn; 13"; "EF.DIR is read before CIAInfo"
   unfoldable pub readDump : Answer
   readDump =
       choose (leb (length s) 32768)
-      (λ _. onFramed (frame s 1 0) (λ c. onFramed (frame s 2 (c .stop)) (λ o. onFiles (frames s (length s) (o .stop)) (λ fs. readParts c o fs))))
+      (λ _. choose hasDir (λ _. onFramed (frame s 5 0) (λ d. readFrom (d .stop) (λ x. onRes (dir s (d .stop) (d .start)) (λ es _. andAlso es x)))) (λ _. readFrom 0 (λ x. x)))
       (λ _. refused DumpSize 0)

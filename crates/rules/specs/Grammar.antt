@@ -94,13 +94,17 @@ _or_ I J = record {
 abbrev pub one : Item → Part
 one I = record { Of = I .Of; bytes = λ i. elementBytes (I .shape i); book = I .book; Meets = I .Meets }
 
-abbrev pub optional : Item → Part
-optional I = record {
-  Of = Option (I .Of);
-  bytes = λ x. elim x [ none ↦ [] | some i ↦ elementBytes (I .shape i) ];
-  book = λ x. elim x [ none ↦ [] | some i ↦ I .book i ];
-  Meets = λ x. elim x [ none ↦ Unit {0} | some i ↦ I .Meets i ];
+-- there, or not
+abbrev pub possibly : Part → Part
+possibly P = record {
+  Of = Option (P .Of);
+  bytes = λ x. elim x [ none ↦ [] | some y ↦ P .bytes y ];
+  book = λ x. elim x [ none ↦ [] | some y ↦ P .book y ];
+  Meets = λ x. elim x [ none ↦ Unit {0} | some y ↦ P .Meets y ];
 }
+
+abbrev pub optional : Item → Part
+optional I = possibly (one I)
 
 abbrev pub slot : Need → Item → Part
 slot Required I = one I

@@ -474,35 +474,31 @@ module _ {s : List ℕ} (I : Item) {end at : ℕ} where
   slot-absent Optional t f p o h = lacking h
   slot-absent (Default d) t f p o h = lacking h
 
-module _ (s : List ℕ) (bytes : Bytes s) (small : length s ≤ 32768) {P : Part} {b : Body} (tag : ℕ) (z : LowTag tag) (f : PlainBody s b P) where
-  abbrev it : Item
-  it = tagged tag P
-
-  law : ItemLaw s (λ _. b) it (λ _. 0) 0 0 (λ x. firstOf x ≡ tag)
-  law = tagged-law s bytes small tag z f
-
-  due-sound : (need : Need) (end at : ℕ) → at ≤ end → end ≤ length s → Reads s (slot need it) (λ _. 0) 0 0 (slotLook need tag .stop) end at (component s tag need b end at)
+-- a component of one tag, by the law of its element
+module _ (s : List ℕ) (bytes : Bytes s) (small : length s ≤ 32768) (I : Item) {b : ℕ → Body} (tag : ℕ) (law : ItemLaw s b I (λ _. 0) 0 0 (λ x. firstOf x ≡ tag)) where
+  due-sound : (need : Need) (end at : ℕ) → at ≤ end → end ≤ length s → Reads s (slot need I) (λ _. 0) 0 0 (slotLook need tag .stop) end at (component s tag need (b tag) end at)
   unfolding component
   due-sound need end at h l =
-      by-choose (Reads s (slot need it) (λ _. 0) 0 0 (slotLook need tag .stop) end at) (ltb at end) (λ _ _.
-      by-head s bytes small (Reads s (slot need it) (λ _. 0) 0 0 (slotLook need tag .stop) end at) (due tag need b at) end at h l (λ _ p o. refuses p o) (λ t a e v.
+      by-choose (Reads s (slot need I) (λ _. 0) 0 0 (slotLook need tag .stop) end at) (ltb at end) (λ _ _.
+      by-head s bytes small (Reads s (slot need I) (λ _. 0) 0 0 (slotLook need tag .stop) end at) (due tag need (b tag) at) end at h l (λ _ p o. refuses p o) (λ t a e v.
       let st = v .stands in
-      by-choose (Reads s (slot need it) (λ _. 0) 0 0 (slotLook need tag .stop) end at) (eqb t tag)
-      (λ _ q. slot-there it need tag (widen s bytes small [] (omega (arith, st .after, st .order)) (st .inside) (law .sound (v .x) (v .element) (v .tag ∙ eqb-true t tag q) end at a e st l)))
-      (λ _ _. slot-absent it need tag NotDue at (omega arith, tt) h)))
-      (λ _ _. slot-absent it need tag Missing end (l, tt) h)
+      by-choose (Reads s (slot need I) (λ _. 0) 0 0 (slotLook need tag .stop) end at) (eqb t tag)
+      (λ _ q. let first : firstOf (v .x) ≡ tag = v .tag ∙ eqb-true t tag q in slot-there I need tag (widen s bytes small [] (omega (arith, st .after, st .order)) (st .inside) (rw first at (law .sound (v .x) (v .element) first end at a e st l))))
+      (λ _ _. slot-absent I need tag NotDue at (omega arith, tt) h)))
+      (λ _ _. slot-absent I need tag Missing end (l, tt) h)
 
   -- it is there
-  there : (need : Need) (end at : ℕ) → at ≤ end → end ≤ length s → (x : P .Of) → P .Meets x → (w : List ℕ) → slice at end s ≡ elementBytes (low tag (P .bytes x)) ++ w → Goes s end at (P .book x) 0 w (component s tag need b end at)
+  there : (need : Need) (end at : ℕ) → at ≤ end → end ≤ length s → (x : I .Of) → I .Meets x → (w : List ℕ) → slice at end s ≡ elementBytes (I .shape x) ++ w → Goes s end at (I .book x) 0 w (component s tag need (b tag) end at)
   unfolding component
   there need end at h l x y w e =
-      let v = head-complete s small at end (low tag (P .bytes x)) w h l (low-is tag (P .bytes x) z) e in
+      let v = head-complete s small at end (I .shape x) w h l (law .is x y) e in
       let st = v .stands in
+      let first = law .begins x y in
       let g = law .complete x y (le-refl 0) end at (v .a) (v .e) st l in
-      element-goes s bytes small v l (rw (lt-ltb at end (omega (arith, st .after, st .order, st .inside)), st .is, low-first tag (P .bytes x) z, eq-eqb tag tag refl) g)
+      element-goes s bytes small v l (rw (lt-ltb at end (omega (arith, st .after, st .order, st .inside)), st .is, first, eq-eqb tag tag refl) (rw first at g))
 
   -- it is not there
-  away : (need : Need) (end at : ℕ) → at ≤ end → end ≤ length s → ((r : Res) → absent need at r ≡ took [] [] at) → (w : List ℕ) → Next (tag ∷ []) w → slice at end s ≡ w → Goes s end at [] 0 w (component s tag need b end at)
+  away : (need : Need) (end at : ℕ) → at ≤ end → end ≤ length s → ((r : Res) → absent need at r ≡ took [] [] at) → (w : List ℕ) → Next (tag ∷ []) w → slice at end s ≡ w → Goes s end at [] 0 w (component s tag need (b tag) end at)
   unfolding component
   away need end at h l k w (nothing q) e =
       let n : at ≡ end = is-end s at end h l (e ∙ q) in
@@ -512,23 +508,27 @@ module _ (s : List ℕ) (bytes : Bytes s) (small : length s ≤ 32768) {P : Part
       let st = v .stands in
       record { ms = []; n = at; is = rw (lt-ltb at end (omega (arith, st .after, st .order, st .inside)), st .is, or-false (eqb (firstOf x) tag) false m .0) (k (fails NotDue at)); counted = refl; low = le-refl at; high = h; left = e }
 
-  begins-it : (e : Bool) (x : P .Of) → Starts (λ t. eqb t tag) e (elementBytes (low tag (P .bytes x)))
-  begins-it e x = begun (low tag (P .bytes x)) [] (low-is tag (P .bytes x) z) (rw (low-first tag (P .bytes x) z) (eq-eqb tag tag refl)) (sym (append-nil (elementBytes (low tag (P .bytes x)))))
+  begins-it : (e : Bool) (x : I .Of) → I .Meets x → Starts (λ t. eqb t tag) e (elementBytes (I .shape x))
+  begins-it e x y = begun (I .shape x) [] (law .is x y) (rw (law .begins x y) (eq-eqb tag tag refl)) (sym (append-nil (elementBytes (I .shape x))))
 
-  slot-starts : (need : Need) (x : slot need it .Of) → Starts (slotLook need tag .first) (slotLook need tag .empty) (slot need it .bytes x)
-  slot-starts Required x = begins-it false x
-  slot-starts Optional none = without tt refl
-  slot-starts Optional (some x) = begins-it true x
-  slot-starts (Default d) none = without tt refl
-  slot-starts (Default d) (some x) = begins-it true x
+  slot-starts : (need : Need) (x : slot need I .Of) → slot need I .Meets x → Starts (slotLook need tag .first) (slotLook need tag .empty) (slot need I .bytes x)
+  slot-starts Required x y = begins-it false x y
+  slot-starts Optional none y = without tt refl
+  slot-starts Optional (some x) y = begins-it true x y
+  slot-starts (Default d) none y = without tt refl
+  slot-starts (Default d) (some x) y = begins-it true x y
 
-  due-complete : (need : Need) (end at : ℕ) → at ≤ end → end ≤ length s → (x : slot need it .Of) → slot need it .Meets x → (w : List ℕ) → Follows (slotLook need tag .stop) w →
-      slice at end s ≡ slot need it .bytes x ++ w → Goes s end at (slot need it .book x) 0 w (component s tag need b end at)
+  due-complete : (need : Need) (end at : ℕ) → at ≤ end → end ≤ length s → (x : slot need I .Of) → slot need I .Meets x → (w : List ℕ) → Follows (slotLook need tag .stop) w →
+      slice at end s ≡ slot need I .bytes x ++ w → Goes s end at (slot need I .book x) 0 w (component s tag need (b tag) end at)
   due-complete Required end at h l x y w v e = there Required end at h l x y w e
   due-complete Optional end at h l none y w v e = away Optional end at h l (λ _. refl) w v e
   due-complete Optional end at h l (some x) y w v e = there Optional end at h l x y w e
   due-complete (Default d) end at h l none y w v e = away (Default d) end at h l (λ _. refl) w v e
   due-complete (Default d) end at h l (some x) y w v e = there (Default d) end at h l x y w e
 
-  pub component-law : (need : Need) → Plain s (component s tag need b) (slot need it) (slotLook need tag)
-  component-law need = record { sound = due-sound need; starts = λ x _. slot-starts need x; complete = λ end at h l x y _ w v e. due-complete need end at h l x y w v e }
+  pub slot-law : (need : Need) → Plain s (component s tag need (b tag)) (slot need I) (slotLook need tag)
+  slot-law need = record { sound = due-sound need; starts = slot-starts need; complete = λ end at h l x y _ w v e. due-complete need end at h l x y w v e }
+
+-- by what is inside it
+pub component-law : (s : List ℕ) → Bytes s → length s ≤ 32768 → {P : Part} {b : Body} (tag : ℕ) → LowTag tag → PlainBody s b P → (need : Need) → Plain s (component s tag need b) (slot need (tagged tag P)) (slotLook need tag)
+component-law s bytes small {P} tag z f need = slot-law s bytes small (tagged tag P) tag (tagged-law s bytes small tag z f) need

@@ -13,7 +13,7 @@ use Rattle.rules.specs.declared.table.Need.the-variants.{Required, Optio
 use Rattle.rules.specs.declared.table.Row.{Row}
 use Rattle.rules.specs.Reading.{Rec, rec}
 use Rattle.rules.specs.LookLaws.{among-more, among-later}
-use Rattle.rules.specs.Grammar.{Part, Item, _and_, _or_, one, slot, tagged, many, sealedOne, raw, rest, payOf, field, fields, fill}
+use Rattle.rules.specs.Grammar.{Part, Item, _and_, _or_, one, optional, slot, tagged, many, sealedOne, raw, rest, payOf, field, fields, fill}
 
 -- records of these kinds
 pub data Among (ks : List ℕ) : List Rec → Type 0 where
@@ -86,6 +86,10 @@ raw-only kind f x = there (itself kind []) none-there
 
 pub sealed-only : (kind : ℕ) (which : ℕ → Bool) (front : ℕ → List ℕ) → Only (one (sealedOne which kind front)) (kind ∷ [])
 sealed-only kind which front x = there (itself kind []) none-there
+
+pub optional-only : (kind : ℕ) (which : ℕ → Bool) → Only (optional (sealedOne which kind (λ _. []))) (kind ∷ [])
+optional-only kind which none = none-there
+optional-only kind which (some x) = there (itself kind []) none-there
 
 pub rest-only : (kind : ℕ) (out : List ℕ) → Only (rest kind out) (kind ∷ [])
 rest-only kind out [] = none-there

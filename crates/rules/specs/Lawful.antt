@@ -1,28 +1,32 @@
 -- What holds of a layout's faces together: it is read as it is and only so, rendering its records gives its bytes, and what is rendered of any records is bytes. One lemma for each way to put layouts together.
 use Prim.Native.Nat.{ℕ, _+_, _-_, _≤_}
 use mathlib.Core.List.{List, [], _∷_, _++_, append-nil}
-use mathlib.Core.Bool.{Bool, true, false, not}
+use mathlib.Core.Bool.{Bool, true, false, _&&_, not}
 use mathlib.Core.Option.{Option, none, some}
 use mathlib.Core.Path.{_≡_, refl, _∙_}
+use native.Mathlib.Nat.{le-refl}
 use native.Mathlib.Omega.{arith}
 use lib.ListN.{length}
 use lib.Seq.{slice}
 use lib.Dec.{ltb, leb, eqb, T, T-not}
 use borrow.Author.Tests.{eqb-true, eq-eqb, not-true}
 use Rattle.elements.specs.declared.fault.Fault.{Fault}
+use Rattle.elements.specs.declared.fault.Fault.the-variants.{NotDue}
 use Rattle.elements.specs.declared.answer.Run.{Run}
 use Rattle.elements.specs.declared.answer.Run.the-variants.{Ends, Refused}
 use Rattle.elements.specs.Choice.{choose}
+use Rattle.elements.specs.ChoiceLaws.{both-true}
 use Rattle.elements.specs.Lists.{Bytes}
 use Rattle.elements.specs.Sealed.{among, sealedRun}
 use Rattle.elements.specs.SealedLaws.{sealed-refuses}
 use Rattle.rules.specs.declared.table.Need.{Need}
-use Rattle.rules.specs.declared.table.Need.the-variants.{Required}
+use Rattle.rules.specs.declared.table.Need.the-variants.{Required, Optional}
 use Rattle.rules.specs.declared.table.Row.{Row}
 use Rattle.rules.specs.Reading.{Rec, rec, Res, took, fails, also, andThen, _then_, Reader, Body}
 use Rattle.rules.specs.Parts as parts
 use Rattle.rules.specs.Parts.{component, components, repeat, upTo, toEnd, inside, keep}
 use Rattle.rules.specs.Looks.{Look, look, seqLook, elemLook, offerLook, restLook, manyLook, leastLook, joinLook, rowsLook, fillLook}
+use Rattle.rules.specs.Rulings.{headedBy}
 use Rattle.rules.specs.Rendering.{Renderer, _next_, within, when, either, from, plain, rRows, rKeep, rAll, rFill}
 use Rattle.rules.specs.Fills.{toFill, fill, beforeFill, onlyFill}
 use Rattle.rules.specs.Grammar as grammar
@@ -30,12 +34,12 @@ use Rattle.rules.specs.Grammar.{firstOf, SealedRun, Part, Item, many, to
 use Rattle.rules.specs.ElementLaws.{run-sound, run-complete}
 use Rattle.rules.specs.FaultLaws.{ofReading, sealed-fault}
 use Rattle.rules.specs.LookLaws.{avoids, bodily, repeats, under}
-use Rattle.rules.specs.RenderLaws.{Renders, and-renders, with-renders, weaken, within-renders, offered-renders, sealed-renders, kept-renders, sealed-all-renders, rest-renders, or-renders, many-renders, least-renders, rowsFit, fields-renders, fill-renders, behind-renders}
+use Rattle.rules.specs.RenderLaws.{Renders, and-renders, with-renders, weaken, within-renders, offered-renders, sealed-renders, kept-renders, sealed-all-renders, rest-renders, or-renders, many-renders, least-renders, optional-renders, rowsFit, fields-renders, fill-renders, behind-renders}
 use Rattle.rules.specs.GrammarLaws as exact
 use Rattle.rules.specs.GrammarLaws.{Stop, tags, close, isClose, Plain, PlainBody, BodyLaw, Any, ItemLaw, clear, slotLook, lowTag, low-tag, inside-law}
 use Rattle.rules.specs.FieldLaws as exact-fields
 use Rattle.rules.specs.FieldLaws.{rowsClear, fields-law}
-use Rattle.rules.specs.ItemLaws.{narrow, or-law, sealed-law, list-law, behind-body, lift-law, recount, total-none}
+use Rattle.rules.specs.ItemLaws.{narrow, or-law, otherwise-law, sealed-law, list-law, behind-body, lift-law, recount, total-none}
 use Rattle.rules.specs.FillLaws.{filed-law, single-law, alone-law}
 use Rattle.rules.specs.Bytewise.{Outs, next-b, within-b, when-b, either-b, from-b, plain-b, keep-b, rows-b, all-b, fill-b}
 
@@ -162,6 +166,19 @@ pub data Judges (own : ℕ) (r : Res) : Res → Type 0 where
   passes : {w : Res} → w ≡ r → Judges own r w
   refuses : (x : Fault) → T (ofReading x) → {w : Res} → w ≡ fails x own → Judges own r w
 
+-- where a check refuses: at the sequence, or at its end
+pub data Spot : Type 0 where
+  itself : Spot
+  ending : Spot
+
+abbrev pub spot : Spot → ℕ → ℕ → ℕ
+spot itself own end = own
+spot ending own end = end
+
+spot-in : (w : Spot) {own end n : ℕ} → own ≤ n → end ≤ n → spot w own end ≤ n
+spot-in itself o l = o
+spot-in ending o l = l
+
 -- such a check says what is more to meet
 pub record Checks (P : Part) (f : ℕ → Res → Res) (more : P .Of → Type 0) : Type 0 where
   pub fallen : (own : ℕ) (x : Fault) (p : ℕ) → f own (fails x p) ≡ fails x p
@@ -190,16 +207,16 @@ module _ {P : Part} {p : List ℕ → ℕ → Reader} {f : Renderer} {L : Look} 
       }))
 
   -- where there is more to meet
-  pub with-lawful : Lawful (grammar.with P more) (λ s own end at. g own (p s own end at)) f L A
-  with-lawful = record {
+  pub with-lawful : (w : Spot) → Lawful (grammar.with P more) (λ s own end at. g (spot w own end) (p s own end at)) f L A
+  with-lawful w = record {
     exact = λ s b m own o.
         let k = x .exact s b m own o in
         record {
-          sound = λ end at h l. with-reads own o (k .sound end at h l);
+          sound = λ end at h l. with-reads (spot w own end) (spot-in w o l) (k .sound end at h l);
           starts = λ y z. k .starts y (z .0);
-          complete = λ end at h l y z r w v e.
-              let q = k .complete end at h l y (z .0) r w v e in
-              record { ms = q .ms; n = q .n; is = rw (q .is) (c .complete own y (z .0) (z .1) (q .ms) (q .n)); counted = q .counted; low = q .low; high = q .high; left = q .left };
+          complete = λ end at h l y z r v u e.
+              let q = k .complete end at h l y (z .0) r v u e in
+              record { ms = q .ms; n = q .n; is = rw (q .is) (c .complete (spot w own end) y (z .0) (z .1) (q .ms) (q .n)); counted = q .counted; low = q .low; high = q .high; left = q .left };
         };
     renders = with-renders more (x .renders);
     clean = x .clean;
@@ -230,6 +247,47 @@ module _ (kind : ℕ) where
 
   pub sealed-lawful : T (ltb kind 65536) → Lawful (grammar.raw (rec kind) (SealedRun 16 [])) sealedRead (rKeep kind) (look (kind ∷ []) false (kind ∷ []) 8) (exact.look anyTag true close)
   sealed-lawful t = record { exact = λ s b m own o. sealed-exact s b m own; renders = sealed-all-renders kind t; clean = keep-b kind }
+
+-- a sealed component of one tag, which may lack
+pub sealed-slot-lawful : (t kind : ℕ) → T (ltb kind 65536) → Lawful (grammar.optional (grammar.sealedOne (λ x. eqb x t) kind noFront)) (λ s own. component s t Optional (parts.sealed s kind [] t)) (rKeep kind) (restLook kind) (slotLook Optional t)
+unfolding rKeep
+sealed-slot-lawful t kind k = record {
+  exact = λ s b m own o. exact.slot-law s b m (grammar.sealedOne (λ x. eqb x t) kind noFront) t (narrow (λ x. firstOf x ≡ t) (λ x e. eq-eqb (firstOf x) t e) (λ x e. eqb-true (firstOf x) t e) (sealed-law s b m (λ x. eqb x t) kind noFront)) Optional;
+  renders = optional-renders (grammar.sealedOne (λ x. eqb x t) kind noFront) tt (sealed-renders (λ x. eqb x t) kind k);
+  clean = keep-b kind;
+}
+
+-- a record in front, told by what is behind it
+module _ {P : Part} {p : List ℕ → ℕ → Reader} {f : Renderer} {L : Look} {A : exact.Look} (x : Lawful P p f L A) (kind most : ℕ) (g : P .Of → List ℕ) (by : List Rec → List ℕ) (same : (y : P .Of) → P .Meets y → by (P .book y) ≡ g y) where
+  headed-reads : {s : List ℕ} {t : Stop} {end at : ℕ} {r : Res} → exact.Reads s P (λ _. 0) 0 0 t end at r → exact.Reads s (grammar.behind P (λ y. rec kind (g y))) (λ _. 0) 0 0 t end at (headedBy kind by r)
+  headed-reads (exact.refuses q i) = exact.refuses q i
+  headed-reads (exact.takes {rs = rs} {ms = ms} {n = n} k) = exact.takes {rs = rec kind (by rs) ∷ rs} {ms = ms} {n = n} (record {
+    it = k .it;
+    meets = k .meets;
+    low = k .low;
+    high = k .high;
+    bytes = k .bytes;
+    book = rw (k .book, same (k .it) (k .meets)) refl;
+    counted = k .counted;
+    marks = k .marks;
+    room = k .room;
+    closes = k .closes;
+  })
+
+  pub headed-lawful : T (ltb kind 65536) → T (leb most 4) → ((y : P .Of) → length (g y) ≤ most) → Lawful (grammar.behind P (λ y. rec kind (g y))) (λ s own end at. headedBy kind by (p s own end at)) (from (λ k q. f)) (look (kind ∷ []) false (L .stop) (4 + most + L .credit)) A
+  headed-lawful t u short = record {
+    exact = λ s b m own o.
+        let k = x .exact s b m own o in
+        record {
+          sound = λ end at h l. headed-reads (k .sound end at h l);
+          starts = k .starts;
+          complete = λ end at h l y z r v w e.
+              let q = k .complete end at h l y z r v w e in
+              record { ms = q .ms; n = q .n; is = rw (q .is, same y z) refl; counted = q .counted; low = q .low; high = q .high; left = q .left };
+        };
+    renders = behind-renders kind most g t u short (x .renders);
+    clean = from-b (λ k p a. x .clean);
+  }
 
 -- an element that must be there, by its tag
 pub one-lawful : {I : Item} {b : List ℕ → ℕ → Body} {f : Renderer} {L : Look} → LawfulOne I b f L → Lawful (grammar.one I) (λ s own. parts.element s (b s)) f L (exact.look anyTag false (tags []))
@@ -263,6 +321,31 @@ module _ {P : Part} {p : List ℕ → ℕ → Reader} {f : Renderer} {L : Look} 
     renders = or-renders (grammar.tagged t P) (grammar.sealedOne (isNot t) kind noFront) (within-renders t (low-tag t v) u (x .renders)) (sealed-renders (isNot t) kind k) n tt d;
     clean = either-b (L .first) (within-b t (low-tag t v .byte) (x .clean)) plain-b;
   }
+
+  -- the same where only these tags may come
+  module _ (which : ℕ → Bool) (with-it : which t ≡ true) where
+    abbrev others : ℕ → Bool
+    others v = isNot t v && which v
+
+    abbrev bodies : List ℕ → ℕ → Body
+    bodies s v at a e = choose (eqb v t) (λ _. p s at e a) (λ _. parts.sealed s kind [] v at a e)
+
+    each-law : T (lowTag t) → T (isClose (A .stop)) → (s : List ℕ) → Bytes s → length s ≤ 32768 → ItemLaw s (bodies s) (grammar._or_ (grammar.tagged t P) (grammar.sealedOne others kind noFront)) (λ _. 0) 0 0 (λ y. Any y × (which (firstOf y) ≡ true))
+    each-law v w s b m = or-law (grammar.tagged t P) (grammar.sealedOne others kind noFront) (λ _. 0) (λ y. Any y × (which (firstOf y) ≡ true)) (λ v. eqb v t)
+        (narrow (λ y. (Any y × (which (firstOf y) ≡ true)) × (eqb (firstOf y) t ≡ true)) (λ y e. eqb-true (firstOf y) t (e .1)) (λ y e. ((tt, rw e with-it), eq-eqb (firstOf y) t e)) (exact.tagged-law s b m t (low-tag t v) (body-exact x w s b m)))
+        (narrow (λ y. (Any y × (which (firstOf y) ≡ true)) × (eqb (firstOf y) t ≡ false)) (λ y e. rw (e .1, e .0 .1) refl) (λ y e. let g = both-true (isNot t (firstOf y)) (which (firstOf y)) e in ((tt, g .1), not-true (eqb (firstOf y) t) (g .0))) (sealed-law s b m others kind noFront))
+
+    pub those-lawful : T (bodily L) → T (lowTag t) → T (isClose (A .stop)) → T (not (L .empty)) → T (avoids (kind ∷ []) (L .first)) → T (ltb kind 65536) →
+        LawfulCounted 0 (grammar.one (grammar._or_ (grammar.tagged t P) (grammar.sealedOne others kind noFront))) (λ _. 0) (λ s k. parts.element s (λ v at a e. choose (which v) (λ _. bodies s v at a e) (λ _. fails NotDue at)))
+        (either (L .first) (within t f) plain) (joinLook (elemLook L) (plainLook kind)) (exact.look which false (tags []))
+    those-lawful u v w n d k = record {
+      exact = λ s b m j h.
+          let z : j ≡ 0 = omega (arith, h) in
+          let g = each-law v w s b m in
+          rw z (exact.element-law s b m which (otherwise-law Any which g) (λ i y. g .begins i y .1));
+      renders = or-renders (grammar.tagged t P) (grammar.sealedOne others kind noFront) (within-renders t (low-tag t v) u (x .renders)) (sealed-renders others kind k) n tt d;
+      clean = either-b (L .first) (within-b t (low-tag t v .byte) (x .clean)) plain-b;
+    }
 
 -- one of several, known by what is common to all
 begins-any : {f : ℕ → Bool} {d : Bool} {c : List ℕ} (e : Bool) → (T d → T e) → exact.Starts f d c → exact.Starts anyTag e c
@@ -328,7 +411,7 @@ ahead-exact (some r) p q g =
 
 ahead-renders : (f : Option Rec) → Short f → {P Q : Part} {p q : Renderer} {L M : Look} → Renders P p L → Renders Q q M → T (avoids (M .first) (aheadLook f L .stop)) → Renders (partAhead f (grammar._and_ P Q)) (rAhead f p next q) (seqLook (aheadLook f L) M)
 ahead-renders none z x y a = and-renders x y a
-ahead-renders (some r) z {P} x y a = and-renders {P = grammar.behind P (λ _. r)} (behind-renders r (z .0) (z .1) x) y a
+ahead-renders (some r) z {P} x y a = and-renders {P = grammar.behind P (λ _. r)} (behind-renders (r .kind) (length (r .pay)) (λ _. r .pay) (z .0) (z .1) (λ _. le-refl (length (r .pay))) x) y a
 
 ahead-clean : (f : Option Rec) {q : Renderer} → Outs q → Outs (rAhead f q)
 ahead-clean none g = g

@@ -1,10 +1,13 @@
 -- What a part of a card is, said once: its contents as data with their bytes, their records and what they must meet; how it is read; how it is rendered;
 -- what is known of its records' kinds and of its tags; and that all this fits together. One definition for each way to put parts together.
-use Prim.Native.Nat.{ℕ, _-_}
+use Prim.Native.Nat.{ℕ, _+_, _-_, _≤_}
 use mathlib.Core.List.{List, [], _∷_, _++_}
+use native.Mathlib.Nat.{le-refl}
 use mathlib.Core.Bool.{true, false, not}
+use mathlib.Core.Path.{_≡_, refl}
 use lib.Seq.{slice}
-use lib.Dec.{ltb, eqb, T}
+use lib.ListN.{length}
+use lib.Dec.{ltb, leb, eqb, T}
 use Rattle.elements.specs.Choice.{choose}
 use Rattle.elements.specs.Sealed.{among, sealedRun}
 use Rattle.rules.specs.declared.table.Need.{Need}
@@ -14,11 +17,11 @@ use Rattle.rules.specs.declared.table.Class.{Class}
 use Rattle.rules.specs.declared.table.Class.the-variants.{Keys, Certificates, Containers, Authentications}
 use Rattle.rules.specs.declared.table.ObjectType.{ObjectType}
 use Rattle.rules.specs.declared.table.ObjectType.the-variants.{PrivateKey, Certificate, Password, Sealed}
-use Rattle.rules.specs.Reading.{rec, Res, _then_, Reader, Body}
+use Rattle.rules.specs.Reading.{Rec, rec, Res, _then_, Reader, Body}
 use Rattle.rules.specs.Parts as parts
 use Rattle.rules.specs.Parts.{component, components, repeat, toEnd, keep}
 use Rattle.rules.specs.Looks.{Look, look, seqLook, elemLook, offerLook, restLook, leastLook, joinLook, rowsLook, fillLook}
-use Rattle.rules.specs.Rendering.{Renderer, _next_, within, when, either, plain, rRows, rKeep, rAll, rFill}
+use Rattle.rules.specs.Rendering.{Renderer, _next_, within, when, either, from, plain, rRows, rKeep, rAll, rFill}
 use Rattle.rules.specs.Fills.{beforeFill, onlyFill}
 use Rattle.rules.specs.Grammar as grammar
 use Rattle.rules.specs.Grammar.{Part, Item, SealedRun}
@@ -28,9 +31,11 @@ use Rattle.rules.specs.GrammarLaws as exact
 use Rattle.rules.specs.GrammarLaws.{tags, close, isClose, clear, slotLook, lowTag}
 use Rattle.rules.specs.FieldLaws as exact-fields
 use Rattle.rules.specs.FieldLaws.{rowsClear}
-use Rattle.rules.specs.Kinds.{Only, early, late, kindsOf, and-only, slot-only, fields-only, least-only, or-only, raw-only, sealed-only, rest-only, fill-only}
+use Rattle.rules.specs.Rulings.{headedBy}
+use Rattle.rules.specs.Kinds as kinds
+use Rattle.rules.specs.Kinds.{Only, there, early, late, kindsOf, optional-only, and-only, slot-only, fields-only, least-only, or-only, raw-only, sealed-only, rest-only, fill-only}
 use Rattle.rules.specs.Lawful as lawful
-use Rattle.rules.specs.Lawful.{Lawful, LawfulOne, Checks, anyTag, noFront, isFree, Solid, leastTags, isNot, plainLook}
+use Rattle.rules.specs.Lawful.{Lawful, LawfulOne, Spot, itself, spot, Checks, anyTag, noFront, isFree, Solid, leastTags, isNot, plainLook}
 
 -- a layout: a part and its faces
 pub record Layout : Type 1 where
@@ -174,18 +179,53 @@ atLeastOne P = record {
   lawful = λ z. lawful.least-lawful (P .lawful (z .0)) (z .1) (z .2) (z .3) (z .4);
 }
 
--- what is more to meet, of all that was read: f refuses at the sequence, or lets it pass
-abbrev pub with : (P : Layout) (f : ℕ → Res → Res) (more : P .part .Of → Type 0) → Checks (P .part) f more → Layout
-with P f more c = record {
+-- what is more to meet, of all that was read: f refuses at the sequence or at its end, or lets it pass
+abbrev pub withAt : Spot → (P : Layout) (f : ℕ → Res → Res) (more : P .part .Of → Type 0) → Checks (P .part) f more → Layout
+withAt w P f more c = record {
   part = grammar.with (P .part) more;
-  read = λ s own end at. f own (P .read s own end at);
+  read = λ s own end at. f (spot w own end) (P .read s own end at);
   render = P .render;
   kinds = P .kinds;
   tags = P .tags;
   all = P .all;
   only = P .only;
   Fine = P .Fine;
-  lawful = λ z. lawful.with-lawful (P .lawful z) f more c;
+  lawful = λ z. lawful.with-lawful (P .lawful z) f more c w;
+}
+
+abbrev pub with : (P : Layout) (f : ℕ → Res → Res) (more : P .part .Of → Type 0) → Checks (P .part) f more → Layout
+with P f more c = withAt itself P f more c
+
+-- behind a record that tells something of it, in at most so many bytes
+abbrev pub headed : (kind most : ℕ) (by : List Rec → List ℕ) (P : Layout) (g : P .part .Of → List ℕ) → ((x : P .part .Of) → P .part .Meets x → by (P .part .book x) ≡ g x) → ((x : P .part .Of) → length (g x) ≤ most) → Layout
+headed kind most by P g same short = record {
+  part = grammar.behind (P .part) (λ x. rec kind (g x));
+  read = λ s own end at. headedBy kind by (P .read s own end at);
+  render = from (λ k p. P .render);
+  kinds = look (kind ∷ []) false (P .kinds .stop) (4 + most + P .kinds .credit);
+  tags = P .tags;
+  all = kind ∷ P .all;
+  only = λ x. there (kinds.itself kind (P .all)) (late (kind ∷ []) (P .all) (P .only x));
+  Fine = P .Fine × T (ltb kind 65536) × T (leb most 4);
+  lawful = λ z. lawful.headed-lawful (P .lawful (z .0)) kind most g by same (z .1) (z .2) short;
+}
+
+-- an empty record in front
+abbrev pub opened : ℕ → Layout → Layout
+opened kind P = headed kind 0 (λ _. []) P (λ _. []) (λ _ _. refl) (λ _. le-refl 0)
+
+-- sealed, of one tag, and it may lack
+abbrev pub sealedIf : ℕ → ℕ → Layout
+sealedIf t kind = record {
+  part = grammar.optional (grammar.sealedOne (λ x. eqb x t) kind noFront);
+  read = λ s own. component s t Optional (parts.sealed s kind [] t);
+  render = rKeep kind;
+  kinds = restLook kind;
+  tags = slotLook Optional t;
+  all = kind ∷ [];
+  only = optional-only kind (λ x. eqb x t);
+  Fine = T (ltb kind 65536);
+  lawful = lawful.sealed-slot-lawful t kind;
 }
 
 -- sealed contents, present even when empty

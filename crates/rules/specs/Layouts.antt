@@ -1,7 +1,8 @@
 -- "Layouts and book kinds" of document 01, each said once: what it is, how it is read and rendered, and that these agree.
 use Prim.Native.Nat.{ℕ, _/_, _%_}
-use mathlib.Core.Path.{_≡_}
+use mathlib.Core.Path.{_≡_, refl}
 use mathlib.Core.List.{[]}
+use native.Mathlib.Nat.{le-refl}
 use native.Mathlib.Omega.{arith}
 use lib.Dec.{eqb}
 use borrow.Author.Tests.{eqb-true}
@@ -11,15 +12,16 @@ use Rattle.rules.specs.declared.table.Class.the-variants.{Keys, Certific
 use Rattle.rules.specs.declared.table.ObjectType.{ObjectType}
 use Rattle.rules.specs.declared.table.ObjectType.the-variants.{PrivateKey, Certificate, Password, Sealed}
 use Rattle.rules.specs.declared.table.Sequence.{Sequence}
-use Rattle.rules.specs.declared.table.Sequence.the-variants.{Info, Common, Rule, Key, CertificateAttributes, Authentication, PrivateKeyAttributes, PasswordAttributes}
-use Rattle.rules.specs.Tables.{ciaRows, commonRows, ruleRows, keyRows, certificateRows, authenticationRows, pathRows, privateRows, passwordRows, restOf, keptOf, typeOf, classOf}
-use Rattle.rules.specs.Rulings.{paired, flagged, quiet}
+use Rattle.rules.specs.declared.table.Sequence.the-variants.{Info, Common, Rule, Key, CertificateAttributes, Authentication, PrivateKeyAttributes, PasswordAttributes, Template, Discretionary}
+use Rattle.rules.specs.Tables.{ciaRows, commonRows, ruleRows, keyRows, certificateRows, authenticationRows, pathRowsFrom, privateRows, passwordRows, templateRows, discretionaryRows, restOf, keptOf, typeOf, classOf}
+use Rattle.rules.specs.Rulings.{paired, flagged, flagOf, oursIn, reached, quiet}
 use Rattle.rules.specs.Grammar as grammar
 use Rattle.rules.specs.Conditions.{condition}
 use Rattle.rules.specs.ConditionRender.{kindsLook, condition-renders, condition-clean, condition-only}
 use Rattle.rules.specs.ConditionLaws.{condLook, plain-condition}
-use Rattle.rules.specs.Layout.{Layout, Single, _and_, fields, rest, ended, apart, with, due, told, maybe, atLeastOne, sealedAll, one, sealedOne, kept, orSealed, byClass, byType, alone, OfClass, classKinds, OfType, typeKinds}
-use Rattle.rules.specs.Checking.{BothOrNeither, pairs, flags}
+use Rattle.rules.specs.Layout.{Layout, Single, _and_, fields, rest, ended, apart, with, withAt, headed, opened, sealedIf, due, told, maybe, atLeastOne, sealedAll, one, sealedOne, kept, orSealed, byClass, byType, alone, OfClass, classKinds, OfType, typeKinds}
+use Rattle.rules.specs.Checking.{BothOrNeither, pairs, flags, OursReached, reaches}
+use Rattle.rules.specs.Lawful.{ending}
 
 -- "Rest means sealed elements after the listed components": of a sequence whose components stand in a table
 abbrev pub restIn : Sequence → Layout
@@ -34,8 +36,11 @@ unfoldable pub cia : Layout
 cia = alone 0x0108 (due 0x30 info)
 
 -- "Path 30 { 04, 0 to 64 bytes, 0180; index 02? 0181; length 80? 0182 }, both to 65,535, both or neither"
-unfoldable pub path : Layout
-path = with (ended (fields pathRows)) paired (λ (p, (index, (len, _))). BothOrNeither index len) pairs
+unfoldable pub pathFrom : ℕ → Layout
+pathFrom k = with (ended (fields (pathRowsFrom k))) (paired k) (λ (p, (index, (len, _))). BothOrNeither index len) (pairs k)
+
+abbrev pub path : Layout
+path = pathFrom 0x0180
 
 -- "Conditions in prefix order", of at most so many levels
 abbrev pub conditionOf : ℕ → Layout
@@ -111,9 +116,21 @@ typed = byType types
 unfoldable pub contents : ℕ → ℕ → Layout
 contents entry tag = ended (due 0x30 common and due 0x30 (class (classOf entry)) and maybe 0xa0 subclass and due 0xa1 (ended (apart (typed (typeOf entry tag)))))
 
+-- "73's contents as clause 7.4 of source document 001 sets out (providerId and the SET sealed)"
+unfoldable pub discretionary : Layout
+discretionary = sealedIf 0x06 0x0206 and maybe 0x30 (pathFrom 0x0207) and maybe 0xa0 (pathFrom 0x020a) and fields discretionaryRows and sealedIf 0x31 0x020e and restIn Discretionary
+
+-- "application templates 61 { identifier 4F of 1 to 16 bytes, label 50?, path 51? of up to 64, 73?, rest } in this order": what stands inside
+abbrev pub templateParts : Layout
+templateParts = fields templateRows and maybe 0x73 (opened 0x0205 discretionary) and restIn Template
+
+-- "5 where a template of ours has neither path nor 73", at its end; "The answer says which templates are ours": 0201 in front
+unfoldable pub template : Layout
+template = headed 0x0201 1 oursIn (withAt ending templateParts reached (OursReached (discretionary .part)) (reaches (discretionary .part))) (λ (((aid, _), _), _). flagOf aid) (λ _ _. refl) (λ _. le-refl 1)
+
 -- all of these, where a law computes with them
 unfoldable pub insides : Unit {0}
-unfolding contents common rules rule class subclass typed privateKey certificate certificateValue password path
+unfolding contents common rules rule class subclass typed privateKey certificate certificateValue password pathFrom
 insides = tt
 
 -- no tag and no kind in it is taken for another
@@ -140,3 +157,8 @@ is-30 t e = let q = eqb-true t 0x30 e in ((λ z. omega arith), (λ z. omega arit
 pub cia-fine : cia .Fine
 unfolding cia info
 cia-fine = search (tt, is-30)
+
+-- the same of EF.DIR's templates
+pub template-fine : template .Fine
+unfolding template discretionary pathFrom
+template-fine = search tt

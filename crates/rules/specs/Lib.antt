@@ -44,6 +44,7 @@ pub mod Examples
 pub mod RowCases
 pub mod Refusals
 pub mod RecordFiles
+pub mod DirCases
 pub mod BookLaws
 pub mod ByteLaws
 pub mod Blocks

@@ -15,8 +15,11 @@ use Rattle.rules.specs.Entries as entries
 use Rattle.rules.specs.Entries.{objectTag}
 
 module _ (s : List ℕ) where
+  abbrev pub pathFrom : ℕ → Body
+  pathFrom k = bodyOf (layouts.pathFrom k) s
+
   abbrev pub path : Body
-  path = bodyOf layouts.path s
+  path = pathFrom 0x0180
 
   abbrev pub condition : ℕ → ℕ → Reader
   condition l k = conditions.condition l .read s k

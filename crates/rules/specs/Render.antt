@@ -72,7 +72,10 @@ rLinear = from (λ k p. rAll (0x011a ∷ []) rRecordIn)
 unfoldable pub framing : ℕ → List ℕ → List ℕ
 framing kind b = recordBytes kind b
 
--- a file in its record, behind its path
+-- a file in its record, and one behind its path
+abbrev pub rFramed : ℕ → Renderer → Renderer
+rFramed kind q rs = let x = q rs in gives (framing kind (x .bytes)) (x .left)
+
 abbrev pub rNamed : ℕ → List ℕ → Renderer → Renderer
 rNamed kind path q rs = let x = q rs in gives (framing kind (length path % 256 ∷ (path ++ x .bytes))) (x .left)
 
@@ -80,9 +83,12 @@ rNamed kind path q rs = let x = q rs in gives (framing kind (length path % 256 �
 unfoldable pub rFile : List ℕ → Renderer
 rFile path = either (0x0118 ∷ []) (rNamed 3 path rDirectory) (rNamed 4 path rLinear)
 
-unfoldable pub rDirectories : List Name → List Rec → List ℕ
-rDirectories [] rs = []
-rDirectories (n ∷ ns) rs = let x = rFile (n .path) rs in x .bytes ++ rDirectories ns (x .left)
+unfoldable pub rDirectories : List Name → Renderer
+rDirectories [] = nothing
+rDirectories (n ∷ ns) = rFile (n .path) next rDirectories ns
+
+unfoldable pub rDir : Renderer
+rDir = filing.dir .render
 
 -- the records of b before what is left of them
 abbrev pub used : List Rec → List Rec → List Rec
@@ -92,4 +98,5 @@ unfoldable pub render : List Rec → List ℕ
 render rs =
     let c = rCia rs in
     let o = rOd (c .left) in
-    framing 1 (c .bytes) ++ (framing 2 (o .bytes) ++ rDirectories (namesOf (used (c .left) (o .left))) (o .left))
+    let d = rDirectories (namesOf (used (c .left) (o .left))) (o .left) in
+    when (0x0200 ∷ []) (rFramed 5 rDir) (d .left) .bytes ++ (framing 1 (c .bytes) ++ (framing 2 (o .bytes) ++ d .bytes))

@@ -21,7 +21,7 @@ use Rattle.rules.specs.declared.table.Need.the-variants.{Required, Optio
 use Rattle.rules.specs.declared.table.Row.{Row}
 use Rattle.rules.specs.Looks.{Look, look, onlyIf, seqLook, elemLook, offerLook, restLook, manyLook, leastLook, joinLook, rowLook, rowsLook, fillLook}
 use Rattle.rules.specs.Rendering.{gives, Renderer, nothing, _next_, within, rLengthed, when, either, from, plain, unvalue, rRow, rRows, rKeep, rMany, rAll, rTimes, rFill}
-use Rattle.rules.specs.Grammar.{low, elementBytes, SealedRun, over, shallow, deep, Part, Item, empty, _and_, _or_, one, optional, slot, tagged, with, behind, sealedOne, raw, unlessEmpty, rest, flat, AllMeet, many, oneOf, lengthed, Worth, contentsOf, payOf, Fine, field, fields, fill}
+use Rattle.rules.specs.Grammar.{possibly, low, elementBytes, SealedRun, over, shallow, deep, Part, Item, empty, _and_, _or_, one, optional, slot, tagged, with, behind, sealedOne, raw, unlessEmpty, rest, flat, AllMeet, many, oneOf, lengthed, Worth, contentsOf, payOf, Fine, field, fields, fill}
 use Rattle.rules.specs.ElementLaws.{lowTag, LowTag, low-tag, wrap-is, element-long, same-element}
 use Rattle.rules.specs.ValueLaws.{count-le16, number-le32}
 use Rattle.rules.specs.LookLaws.{pay-first, Fresh, Begins, avoids, size, Laid, bodily, repeats, subset, implies, under, fresh-left, fresh-right, begins-fresh, begins-hard, begins-soft, begins-one, size-append, laid-append, when-none, when-some, fresh-subset, only, begins-many, begins-more, begins-later, apart, longer, not-empty, begins-subset, begins-seq, either-left, either-right, none, some}
@@ -137,32 +137,36 @@ module _ {P : Part} {q : Renderer} {L : Look} where
     tells = r .tells;
   }
 
-module _ (I : Item) {q : Renderer} {L : Look} (e : T (not (L .empty))) (r : Renders (one I) q L) where
+module _ (P : Part) {q : Renderer} {L : Look} (e : T (not (L .empty))) (r : Renders P q L) where
   -- where it need not be there
-  pub optional-renders : Renders (optional I) (when (L .first) q) (look (L .first) true (L .first ++ L .stop) (L .credit))
-  optional-renders = record { renders = made; begins = beginning; bound = bounded; laid = lying; tells = telling }
+  pub possibly-renders : Renders (possibly P) (when (L .first) q) (look (L .first) true (L .first ++ L .stop) (L .credit))
+  possibly-renders = record { renders = made; begins = beginning; bound = bounded; laid = lying; tells = telling }
     where
-      made : (x : optional I .Of) → optional I .Meets x → (w : List Rec) → Fresh (L .first ++ L .stop) w → when (L .first) q (optional I .book x ++ w) ≡ gives (optional I .bytes x) w
+      made : (x : possibly P .Of) → possibly P .Meets x → (w : List Rec) → Fresh (L .first ++ L .stop) w → when (L .first) q (possibly P .book x ++ w) ≡ gives (possibly P .bytes x) w
       made option.none m w h = when-none (L .first) q w (fresh-left (L .first) (L .stop) w h)
-      made (option.some x) m w h = when-renders {P = one I} e r .renders x m w h
+      made (option.some x) m w h = when-renders {P = P} e r .renders x m w h
 
-      beginning : (x : optional I .Of) → optional I .Meets x → Begins (L .first) true (optional I .book x)
+      beginning : (x : possibly P .Of) → possibly P .Meets x → Begins (L .first) true (possibly P .book x)
       beginning option.none m = none tt
       beginning (option.some x) m = begins-soft true (begins-hard e (r .begins x m))
 
-      bounded : (x : optional I .Of) → optional I .Meets x → size (optional I .book x) ≤ 4 * length (optional I .bytes x) + L .credit
+      bounded : (x : possibly P .Of) → possibly P .Meets x → size (possibly P .book x) ≤ 4 * length (possibly P .bytes x) + L .credit
       bounded option.none m = omega arith
       bounded (option.some x) m = r .bound x m
 
-      lying : (x : optional I .Of) → optional I .Meets x → (n : ℕ) → length (optional I .bytes x) ≤ n → Laid n (optional I .book x)
+      lying : (x : possibly P .Of) → possibly P .Meets x → (n : ℕ) → length (possibly P .bytes x) ≤ n → Laid n (possibly P .book x)
       lying option.none m n h = tt
       lying (option.some x) m n h = r .laid x m n h
 
-      telling : (x y : optional I .Of) → optional I .Meets x → optional I .Meets y → optional I .book x ≡ optional I .book y → x ≡ y
+      telling : (x y : possibly P .Of) → possibly P .Meets x → possibly P .Meets y → possibly P .book x ≡ possibly P .book y → x ≡ y
       telling option.none option.none m l z = refl
       telling option.none (option.some y) m l z = absurd (not-empty (begins-hard e (r .begins y l)) (sym z))
       telling (option.some x) option.none m l z = absurd (not-empty (begins-hard e (r .begins x m)) z)
       telling (option.some x) (option.some y) m l z = ap option.some (r .tells x y m l z)
+
+-- the same of an element
+pub optional-renders : (I : Item) {q : Renderer} {L : Look} → T (not (L .empty)) → Renders (one I) q L → Renders (optional I) (when (L .first) q) (look (L .first) true (L .first ++ L .stop) (L .credit))
+optional-renders I e r = possibly-renders (one I) e r
 
 -- an element that its first kinds tell
 pub offered-renders : {P : Part} {q : Renderer} {L : Look} (d : Need) (t : ℕ) → LowTag t → T (bodily L) → T (not (L .empty)) → Renders P q L → Renders (slot d (tagged t P)) (when (L .first) (within t q)) (offerLook d L)
@@ -462,12 +466,12 @@ fill-renders kind t = record { renders = made; begins = beginning; bound = bound
         rw (i, j) refl
 
 -- a record in front, of at most four bytes
-pub behind-renders : {P : Part} {q : Renderer} {L : Look} (r : Rec) → T (ltb (r .kind) 65536) → T (leb (length (r .pay)) 4) → Renders P q L →
-    Renders (behind P (λ _. r)) (from (λ k p. q)) (look (r .kind ∷ []) false (L .stop) (4 + length (r .pay) + L .credit))
-behind-renders {P} r t u f = record {
+pub behind-renders : {P : Part} {q : Renderer} {L : Look} (kind most : ℕ) (g : P .Of → List ℕ) → T (ltb kind 65536) → T (leb most 4) → ((x : P .Of) → length (g x) ≤ most) → Renders P q L →
+    Renders (behind P (λ x. rec kind (g x))) (from (λ k p. q)) (look (kind ∷ []) false (L .stop) (4 + most + L .credit))
+behind-renders {P} kind most g t u short f = record {
   renders = f .renders;
-  begins = λ x m. begins-one (r .kind) (r .pay) (P .book x) false;
-  bound = λ x m. omega (arith, f .bound x m);
-  laid = λ x m n h. (t, omega (arith, leb→le (length (r .pay)) 4 u), f .laid x m n h);
+  begins = λ x m. begins-one kind (g x) (P .book x) false;
+  bound = λ x m. omega (arith, f .bound x m, short x);
+  laid = λ x m n h. (t, omega (arith, leb→le most 4 u, short x), f .laid x m n h);
   tells = λ x y m l e. f .tells x y m l cc;
 }

@@ -1,5 +1,5 @@
 -- A table for each sequence, in the order of document 01: tag, book kind, form, need, bounds (of what the form tells: a number, how many bytes, how many characters). Names are Annex A's.
-use Prim.Native.Nat.{ℕ, _-_}
+use Prim.Native.Nat.{ℕ, _+_, _-_}
 use lib.ListN.{getD}
 use mathlib.Core.List.{List, [], _∷_, _++_}
 use mathlib.Core.Bool.{_&&_}
@@ -13,7 +13,7 @@ use Rattle.rules.specs.declared.table.Class.the-variants.{Keys, Certific
 use Rattle.rules.specs.declared.table.ObjectType.{ObjectType}
 use Rattle.rules.specs.declared.table.ObjectType.the-variants.{PrivateKey, Certificate, Password, Sealed}
 use Rattle.rules.specs.declared.table.Sequence.{Sequence}
-use Rattle.rules.specs.declared.table.Sequence.the-variants.{Info, Common, Rule, Key, CertificateAttributes, Authentication, PrivateKeyAttributes, PasswordAttributes, Path}
+use Rattle.rules.specs.declared.table.Sequence.the-variants.{Info, Common, Rule, Key, CertificateAttributes, Authentication, PrivateKeyAttributes, PasswordAttributes, Path, Template, Discretionary, OdfPath, InfoPath}
 use Rattle.rules.specs.declared.table.Sort.{Sort}
 use Rattle.rules.specs.declared.table.Sort.the-variants.{Always, Identifier, Not, And, Or, Other}
 use Rattle.rules.specs.Parts.{row, keptOut}
@@ -124,22 +124,42 @@ passwordRows =
     row 0x18 0x0197 Time Optional 0 0 ∷
     []
 
--- Path: index and length, "both or neither"
-abbrev pub efidOrPathRow : Row
-efidOrPathRow = row 0x04 0x0180 Octets Required 0 64
+-- Path, with records from kind k on: index and length, "both or neither"
+abbrev pub efidOrPathRow : ℕ → Row
+efidOrPathRow k = row 0x04 k Octets Required 0 64
 
-abbrev pub indexRow : Row
-indexRow = row 0x02 0x0181 Integer Optional 0 65535
+abbrev pub indexRow : ℕ → Row
+indexRow k = row 0x02 (k + 1) Integer Optional 0 65535
 
-abbrev pub lengthRow : Row
-lengthRow = row 0x80 0x0182 Integer Optional 0 65535
+abbrev pub lengthRow : ℕ → Row
+lengthRow k = row 0x80 (k + 2) Integer Optional 0 65535
+
+abbrev pub pathRowsFrom : ℕ → List Row
+pathRowsFrom k =
+    efidOrPathRow k ∷
+    indexRow k ∷
+    lengthRow k ∷
+    []
 
 abbrev pub pathRows : List Row
-pathRows =
-    efidOrPathRow ∷
-    indexRow ∷
-    lengthRow ∷
+pathRows = pathRowsFrom 0x0180
+
+-- ApplicationTemplate, before its 73
+abbrev pub templateRows : List Row
+templateRows =
+    -- application identifier
+    row 0x4f 0x0202 Octets Required 1 16 ∷
+    -- application label
+    row 0x50 0x0203 Text Optional 0 255 ∷
+    -- path
+    row 0x51 0x0204 Octets Optional 0 64 ∷
     []
+
+-- CIODDO, between its Paths and its SET
+abbrev pub discretionaryRows : List Row
+discretionaryRows =
+    -- aid
+    row 0x4f 0x020d Octets Optional 1 16 ∷ []
 
 -- "fixed tables": of each sequence
 abbrev pub rowsOf : Sequence → List Row
@@ -152,6 +172,26 @@ rowsOf Authentication = authenticationRows
 rowsOf PrivateKeyAttributes = privateRows
 rowsOf PasswordAttributes = passwordRows
 rowsOf Path = pathRows
+rowsOf Template = templateRows
+rowsOf Discretionary = discretionaryRows
+rowsOf OdfPath = pathRowsFrom 0x0207
+rowsOf InfoPath = pathRowsFrom 0x020a
+
+-- the first kind of a Path's records; 0 of what is none
+abbrev pub pathKind : Sequence → ℕ
+pathKind Info = 0
+pathKind Common = 0
+pathKind Rule = 0
+pathKind Key = 0
+pathKind CertificateAttributes = 0
+pathKind Authentication = 0
+pathKind PrivateKeyAttributes = 0
+pathKind PasswordAttributes = 0
+pathKind Path = 0x0180
+pathKind Template = 0
+pathKind Discretionary = 0
+pathKind OdfPath = 0x0207
+pathKind InfoPath = 0x020a
 
 -- "rest 0106", "rest 012F" ..: the kind that a sequence's rest is kept as; a Path has none
 abbrev pub restOf : Sequence → ℕ
@@ -164,6 +204,10 @@ restOf Authentication = 0x015f
 restOf PrivateKeyAttributes = 0x018f
 restOf PasswordAttributes = 0x019f
 restOf Path = 0
+restOf Template = 0x0210
+restOf Discretionary = 0x020f
+restOf OdfPath = 0
+restOf InfoPath = 0
 
 -- "rules 30?", "Path? 30": the tags of components that may be absent and have no row
 abbrev pub beside : Sequence → List ℕ
@@ -176,6 +220,10 @@ beside Authentication = []
 beside PrivateKeyAttributes = []
 beside PasswordAttributes = 0x30 ∷ []
 beside Path = []
+beside Template = 0x73 ∷ []
+beside Discretionary = 0x06 ∷ 0x30 ∷ 0xa0 ∷ 0x31 ∷ []
+beside OdfPath = []
+beside InfoPath = []
 
 -- "the tag of an optional or defaulted component of that sequence may not occur there"
 abbrev pub keptOf : Sequence → List ℕ

@@ -23,7 +23,7 @@ fn put_unless_required(need: Need, tag: u8, tags: &mut [u8], o: usize) -> usize
 
 // The tags of components that may be absent and have no row.
 fn put_beside(q: Sequence, tags: &mut [u8]) -> usize
-    ensures { λ r. ⌜ Put (now (tags .entry)) (now (tags .exit)) 0 r (beside q) × (r ≤ 1) ⌝ }
+    ensures { λ r. ⌜ Put (now (tags .entry)) (now (tags .exit)) 0 r (beside q) × (r ≤ 4) ⌝ }
 {
     match q {
         Sequence::Info => 0,
@@ -35,13 +35,22 @@ fn put_beside(q: Sequence, tags: &mut [u8]) -> usize
         Sequence::PrivateKeyAttributes => 0,
         Sequence::PasswordAttributes => put_byte(tags, 0, 0x30),
         Sequence::Path => 0,
+        Sequence::Template => put_byte(tags, 0, 0x73),
+        Sequence::Discretionary => {
+            let a = put_byte(tags, 0, 0x06);
+            let b = put_byte(tags, a, 0x30);
+            let c = put_byte(tags, b, 0xa0);
+            put_byte(tags, c, 0x31)
+        }
+        Sequence::OdfPath => 0,
+        Sequence::InfoPath => 0,
     }
 }
 
 // The tags of a sequence's components, but for required ones: from o on in `tags`.
 fn put_rows(q: Sequence, tags: &mut [u8], o: usize) -> usize
-    requires { ⌜ o ≤ 1 ⌝ }
-    ensures { λ r. ⌜ Put (now (tags .entry)) (now (tags .exit)) o r (keptOut (rowsOf q)) × (r ≤ 9) ⌝ }
+    requires { ⌜ o ≤ 4 ⌝ }
+    ensures { λ r. ⌜ Put (now (tags .entry)) (now (tags .exit)) o r (keptOut (rowsOf q)) ⌝ }
 {
     let last = count_of(q);
     let mut n = o;

@@ -115,6 +115,42 @@ const PATH: [Line; 3] = [
     Line(0x80, 0x0182, Form::Integer, Need::Optional, 0, 65535),
 ];
 
+// ApplicationTemplate
+const TEMPLATE: [Line; 3] = [
+    // application identifier
+    Line(0x4f, 0x0202, Form::Octets, Need::Required, 1, 16),
+    // application label
+    Line(0x50, 0x0203, Form::Text, Need::Optional, 0, 255),
+    // path
+    Line(0x51, 0x0204, Form::Octets, Need::Optional, 0, 64),
+];
+
+// CIODDO
+const DISCRETIONARY: [Line; 1] = [
+    // aid
+    Line(0x4f, 0x020d, Form::Octets, Need::Optional, 1, 16),
+];
+
+// odfPath
+const ODF_PATH: [Line; 3] = [
+    // efidOrPath
+    Line(0x04, 0x0207, Form::Octets, Need::Required, 0, 64),
+    // index
+    Line(0x02, 0x0208, Form::Integer, Need::Optional, 0, 65535),
+    // length
+    Line(0x80, 0x0209, Form::Integer, Need::Optional, 0, 65535),
+];
+
+// ciaInfoPath
+const INFO_PATH: [Line; 3] = [
+    // efidOrPath
+    Line(0x04, 0x020a, Form::Octets, Need::Required, 0, 64),
+    // index
+    Line(0x02, 0x020b, Form::Integer, Need::Optional, 0, 65535),
+    // length
+    Line(0x80, 0x020c, Form::Integer, Need::Optional, 0, 65535),
+];
+
 // A line as a row.
 fn row(l: Line) -> Row
     ensures { λ r. ⌜ r ≡ row (l .0) (l .1) (l .2) (l .3) (l .4) (l .5) ⌝ }
@@ -164,6 +200,18 @@ pub fn row_of(q: Sequence, i: usize) -> Row
         Sequence::Path => {
             return row(PATH[i]);
         }
+        Sequence::Template => {
+            return row(TEMPLATE[i]);
+        }
+        Sequence::Discretionary => {
+            return row(DISCRETIONARY[i]);
+        }
+        Sequence::OdfPath => {
+            return row(ODF_PATH[i]);
+        }
+        Sequence::InfoPath => {
+            return row(INFO_PATH[i]);
+        }
     }
 }
 
@@ -181,6 +229,10 @@ pub fn count_of(q: Sequence) -> usize
         Sequence::PrivateKeyAttributes => PRIVATE_KEY.len(),
         Sequence::PasswordAttributes => PASSWORD.len(),
         Sequence::Path => PATH.len(),
+        Sequence::Template => TEMPLATE.len(),
+        Sequence::Discretionary => DISCRETIONARY.len(),
+        Sequence::OdfPath => ODF_PATH.len(),
+        Sequence::InfoPath => INFO_PATH.len(),
     }
 }
 
@@ -198,5 +250,9 @@ pub fn rest_of(q: Sequence) -> u16
         Sequence::PrivateKeyAttributes => 0x018f,
         Sequence::PasswordAttributes => 0x019f,
         Sequence::Path => 0,
+        Sequence::Template => 0x0210,
+        Sequence::Discretionary => 0x020f,
+        Sequence::OdfPath => 0,
+        Sequence::InfoPath => 0,
     }
 }

@@ -29,6 +29,10 @@ pub enum Sequence {
     PrivateKeyAttributes,
     PasswordAttributes,
     Path,
+    Template,
+    Discretionary,
+    OdfPath,
+    InfoPath,
 }
 
 // What the objects of an EF.OD entry are.

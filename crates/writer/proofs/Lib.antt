@@ -1,10 +1,4 @@
-pub mod MadeLaws
-pub mod ManyLaws
-pub mod LeafLaws
-pub mod MakeConditionLaws
-pub mod MakeCommonLaws
-pub mod MakeTypeLaws
-pub mod MakeObjectLaws
 pub mod MakeEntryLaws
 pub mod MakeLinearLaws
+pub mod MakeTemplateLaws
 pub mod RenderLaws

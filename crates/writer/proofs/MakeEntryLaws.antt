@@ -7,13 +7,14 @@ use lib.ListN.{getD, drop-of-length-le}
 use lib.Seq.{slice, slice-empty, length-slice}
 use borrow.Author.Tests.{lt-ltb, le-ltb, ne-eqb}
 use Rattle.elements.specs.Length.{wrap}
-use Rattle.writer.specs.declared.made.Made.{Made}
-use Rattle.writer.specs.declared.made.Made.the-variants.{Took, Long}
+use Rattle.makers.specs.declared.made.Made.{Made}
+use Rattle.makers.specs.declared.made.Made.the-variants.{Took, Long}
 use Rattle.rules.specs.Render.{Rendered, gives, _next_, within, rFill, rObjects, rInside, rEntryOf, rEntry, rDirectory}
 use Rattle.rules.specs.Book.{recordsFrom, Ends}
 use Rattle.rules.specs.BookLaws.{name-path}
-use Rattle.writer.specs.Making.{Makes, Onward, Tail}
-use Rattle.writer.proofs.MadeLaws.{makes-as, makes-behind, made-steps, steps-then, from-some, onward-one}
+use Rattle.makers.specs.Making.{Makes, Onward}
+use Rattle.writer.specs.MakingFiles.{Tail}
+use Rattle.makers.specs.MadeLaws.{makes-as, makes-behind, made-steps, steps-then, from-some, onward-one}
 
 -- an entry's own bytes
 pub tail-none : (i e : ℕ) → e < i + 6 → Tail i e e

@@ -2,22 +2,24 @@
 use Prim.Native.Nat.{ℕ, _+_, _-_, _%_, _<_, _≤_}
 use mathlib.Core.Path.{_≡_, refl, sym, ap, _∙_}
 use mathlib.Core.Bool.{Bool, true, false}
-use mathlib.Core.List.{List, [], _∷_, _++_, append-assoc, append-nil}
+use mathlib.Core.List.{List, [], _∷_, _++_}
 use native.Mathlib.Omega.{arith}
 use lib.ListN.{length, getD, length-append}
 use lib.Seq.{slice, length-slice, take-at}
 use Rattle.elements.specs.Put.{Put, le16}
-use Rattle.elements.specs.PutLaws.{put-none, put-put, put-length}
+use Rattle.elements.specs.PutLaws.{put-put, put-length}
 use Rattle.elements.specs.Record.{recordBytes}
-use Rattle.writer.specs.declared.made.Made.{Made}
-use Rattle.writer.specs.declared.made.Made.the-variants.{Took, Long}
+use Rattle.makers.specs.declared.made.Made.{Made}
+use Rattle.makers.specs.declared.made.Made.the-variants.{Took, Long}
 use Rattle.rules.specs.Reading.{Rec, rec}
 use Rattle.rules.specs.Files.{Name, two, namesPath, namesOf}
-use Rattle.rules.specs.Book.{records, recordsFrom, Ends}
+use Rattle.rules.specs.Book.{records, recordsFrom, Ends, nextIs}
 use Rattle.rules.specs.BookLaws.{name-room, name-path, one-end}
-use Rattle.rules.specs.Render.{Rendered, gives, Renderer, either, rNamed, rCia, rOd, rDirectory, rLinear, rFile, rDirectories, framing, used, render}
-use Rattle.writer.specs.Making.{Walk, there, onto, Steps, Makes, breaks, Opened, begins, Ended, Closed, Fitted, fits, beyond, Named, FileMade, FilesMade, TwoMade}
-use Rattle.writer.proofs.MadeLaws.{front-grows, closed-front, by-either, closed-made, put-made, makes-same, made-put, made-left, made-room, made-steps, made-long, made-high}
+use Rattle.rules.specs.Render.{Rendered, gives, Renderer, _next_, when, either, rNamed, rFramed, rOd, rDirectory, rLinear, rFile, rDirectories, rDir, framing, used, render}
+use Rattle.makers.specs.Making.{Walk, there, onto, Steps, Makes, makes, breaks, Opened, begins, Ended, Closed, nextAmong}
+use Rattle.makers.specs.MadeLaws.{front-grows, closed-front, by-either, closed-made, put-made, put-again, makes-none, makes-same, made-put, made-left, made-room, made-steps, made-long, made-high, then-long, then-took, next-one, when-is, when-not}
+use Rattle.writer.specs.Composed.{odAndFiles, othersThanDir}
+use Rattle.writer.specs.MakingFiles.{Fitted, fits, beyond, Named, FileMade, FilesMade}
 
 -- a dump record around contents
 abbrev lengthKind : ℕ → ℕ → List ℕ
@@ -79,27 +81,27 @@ walk-same there g = none g refl
     none (onto h f) e = absurd (omega (arith, h .low, walk-low f))
 walk-same {b} {i} (onto {e = e} h f) g = let w = first-of h (omega (arith, h .low, walk-low f)) g in ap (λ (r : List Rec). rec (two b (i + 2)) (slice (i + 4) e b) ∷ r) (walk-same f (w .walk)) ∙ sym (w .is)
 
--- the files are being made: those of the records from k on are left, and their objects' records start at n
+-- the files are being made: those of the records from k on, from the records from n on, complete the whole
 pub record Filing (b a c : List ℕ) (j end i o k n p : ℕ) : Type 0 where
   pub rest : List Rec
   pub walk : Walk b k end rest
-  pub made : List ℕ
-  pub put : Put a c o p made
-  pub room : p ≤ length a
-  pub same : length c ≡ length a
+  pub is : (d : List ℕ) (s : Made) → Makes b c d n p (rDirectories (namesOf rest) (recordsFrom b n)) s → FilesMade b a d j end i o s
   pub high : n ≤ length b
-  pub whole : (rs : List Rec) → Walk b j end rs → rDirectories (namesOf rs) (recordsFrom b i) ≡ made ++ rDirectories (namesOf rest) (recordsFrom b n)
+  pub room : p ≤ length c
+  pub same : length c ≡ length a
+
+-- files by equal names
+names-as : (l : List Rec) {b a c : List ℕ} {i o : ℕ} {ns ms : List Name} {s : Made} → ns ≡ ms → Makes b a c i o (rDirectories ms l) s → Makes b a c i o (rDirectories ns l) s
+names-as l e m = rw e m
 
 pub filing-start : (b a : List ℕ) (j end i o : ℕ) → Steps b j end → i ≤ length b → o ≤ length a → Filing b a a j end i o j i o
 filing-start b a j end i o s h l = record {
   rest = s .taken;
   walk = s .walk;
-  made = [];
-  put = put-none a o;
+  is = λ d r m. record { is = λ rs w. names-as (recordsFrom b i) (ap namesOf (walk-same w (s .walk))) m };
+  high = h;
   room = l;
   same = refl;
-  high = h;
-  whole = λ rs w. rw (walk-same w (s .walk)) refl;
 }
 
 walk-none : {b : List ℕ} {k end : ℕ} {rs : List Rec} → Walk b k end rs → end ≤ k → rs ≡ []
@@ -117,7 +119,7 @@ module _ {b a c : List ℕ} {j end i o k n p : ℕ} (m : Filing b a c j end i o 
 
   pub filing-done : end ≤ k → FilesMade b a c j end i o (Took n p)
   unfolding rDirectories namesOf
-  filing-done l = record { is = λ rs w. let z : m .made ++ rDirectories (namesOf (m .rest)) (recordsFrom b n) ≡ m .made = ap (λ (x : List Rec). m .made ++ rDirectories (namesOf x) (recordsFrom b n)) (walk-none (m .walk) l) ∙ append-nil (m .made) in rw (m .whole rs w ∙ z) (fits (m .put) (m .room)) }
+  filing-done l = m .is c (Took n p) (names-as (recordsFrom b n) (ap namesOf (walk-none (m .walk) l)) (makes-none b c n p (m .high) (m .room)))
 
   module _ (l : k < end) {e : ℕ} (h : Ends b k e) {t : Bool} (q : t ≡ namesPath (two b (k + 2)) (slice (k + 4) e b)) where
     first : FirstOf b k e end (m .rest)
@@ -129,42 +131,35 @@ module _ {b a c : List ℕ} {j end i o k n p : ℕ} (m : Filing b a c j end i o 
     filing-pass z =
         let w = first in
         let u : namesOf (rec (two b (k + 2)) (slice (k + 4) e b) ∷ w .rest) ≡ namesOf (w .rest) = rw (sym q ∙ z) refl in
-        record { rest = w .rest; walk = w .walk; made = m .made; put = m .put; room = m .room; same = m .same; high = m .high; whole = λ rs v. m .whole rs v ∙ ap (λ (x : List Name). m .made ++ rDirectories x (recordsFrom b n)) (ap namesOf (w .is) ∙ u) }
+        record { rest = w .rest; walk = w .walk; is = λ d s f. m .is d s (names-as (recordsFrom b n) (ap namesOf (w .is) ∙ u) f); high = m .high; room = m .room; same = m .same }
 
     -- it names one
     pub filing-long-enough : t ≡ true → k + 6 ≤ e
     filing-long-enough z = name-room (two b (k + 2)) b k e (h .high) (sym q ∙ z)
 
     module _ (z : t ≡ true) {d : List ℕ} {r : Made} (f : FileMade b c d k e n p r) where
-      abbrev file : Rendered
-      file = rFile (slice (k + 6) e b) (recordsFrom b n)
+      abbrev file : Renderer
+      file = rFile (slice (k + 6) e b)
 
-      named : (rs : List Rec) → Walk b j end rs → rDirectories (namesOf rs) (recordsFrom b i) ≡ m .made ++ (file .bytes ++ rDirectories (namesOf (first .rest)) (file .left))
+      named : {g : List ℕ} {s : Made} → Makes b c g n p ((file next rDirectories (namesOf (first .rest))) (recordsFrom b n)) s → FilesMade b a g j end i o s
       unfolding rDirectories namesOf
-      named rs v =
+      named {g} {s} x =
           let w = first in
           let u : namesOf (rec (two b (k + 2)) (slice (k + 4) e b) ∷ w .rest) ≡ record { tag = getD (slice (k + 4) e b) 0 0; path = slice (k + 6) e b } ∷ namesOf (w .rest) = rw (sym q ∙ z, name-path b k e) refl in
-          m .whole rs v ∙ ap (λ (x : List Name). m .made ++ rDirectories x (recordsFrom b n)) (ap namesOf (w .is) ∙ u)
+          m .is g s (names-as (recordsFrom b n) (ap namesOf (w .is) ∙ u) x)
 
       pub filing-long : r ≡ Long → FilesMade b a d j end i o Long
-      filing-long y =
-          let more = rDirectories (namesOf (first .rest)) (file .left) in
-          record { is = λ rs v. rw (named rs v) (beyond (omega (arith, made-long (f .is) y, m .put .at, m .same, length-append (m .made) (file .bytes ++ more), length-append (file .bytes) more)) (makes-same (f .is) ∙ m .same)) }
+      filing-long y = named (then-long file (rDirectories (namesOf (first .rest))) (recordsFrom b n) (f .is) y)
 
       pub filing-more : {n′ p′ : ℕ} → r ≡ Took n′ p′ → Filing b a d j end i o e n′ p′
-      filing-more {n′} {p′} y =
-          let w = first in
-          let x : file .left ≡ recordsFrom b n′ = made-left (f .is) y in
-          record {
-            rest = w .rest;
-            walk = w .walk;
-            made = m .made ++ file .bytes;
-            put = put-put (m .put) (made-put (f .is) y);
-            room = omega (arith, made-room (f .is) y, makes-same (f .is), m .same);
-            same = makes-same (f .is) ∙ m .same;
-            high = made-high (f .is) y;
-            whole = λ rs v. named rs v ∙ rw x (sym (append-assoc (m .made) (file .bytes) (rDirectories (namesOf (w .rest)) (recordsFrom b n′))));
-          }
+      filing-more y = record {
+        rest = first .rest;
+        walk = first .walk;
+        is = λ g s x. named (then-took file (rDirectories (namesOf (first .rest))) (recordsFrom b n) (f .is) y x);
+        high = made-high (f .is) y;
+        room = made-room (f .is) y;
+        same = makes-same (f .is) ∙ m .same;
+      }
 
 used-is : (cs ds : List Rec) → used (cs ++ ds) ds ≡ cs
 used-is cs ds = take-at cs ds (length (cs ++ ds) - length ds) (omega (arith, length-append cs ds))
@@ -173,45 +168,66 @@ used-of : (rs taken left l : List Rec) → l ≡ left → rs ≡ taken ++ left �
 used-of rs taken left l e q = rw (q, e) (used-is taken left)
 
 -- EF.OD's record, then the files
-module _ {b a c : List ℕ} {i o : ℕ} {r : Made} (m : Makes b a c i o (gives (framing 2 (rOd (recordsFrom b i) .bytes)) (rOd (recordsFrom b i) .left)) r) where
-  pub two-long : r ≡ Long → TwoMade b a c i o Long
-  two-long z =
-      let w = rOd (recordsFrom b i) in
-      record { is = beyond (omega (arith, made-long m z, length-append (framing 2 (w .bytes)) (rDirectories (namesOf (used (recordsFrom b i) (w .left))) (w .left)))) (makes-same m) }
+module _ {b a c : List ℕ} {i o : ℕ} {r : Made} (m : Makes b a c i o (rFramed 2 rOd (recordsFrom b i)) r) where
+  abbrev files : Renderer
+  files = rDirectories (namesOf (used (recordsFrom b i) (rOd (recordsFrom b i) .left)))
 
-  pub two-took : {d : List ℕ} {n q : ℕ} {s : Made} → r ≡ Took n q → FilesMade b c d i n n q s → TwoMade b a d i o s
+  pub two-long : r ≡ Long → Makes b a c i o (odAndFiles (recordsFrom b i)) Long
+  two-long z = then-long (rFramed 2 rOd) files (recordsFrom b i) m z
+
+  pub two-took : {d : List ℕ} {n q : ℕ} {s : Made} → r ≡ Took n q → FilesMade b c d i n n q s → Makes b a d i o (odAndFiles (recordsFrom b i)) s
   two-took {d} {n} {q} {s} z f =
       let w = rOd (recordsFrom b i) in
       let t = made-steps m z in
-      let e : w .left ≡ recordsFrom b n = made-left m z in
-      let u : used (recordsFrom b i) (w .left) ≡ t .taken = used-of (recordsFrom b i) (t .taken) (recordsFrom b n) (w .left) e (t .is) in
-      record { is = go′ (framing 2 (w .bytes)) u e (go (f .is (t .taken) (t .walk))) }
+      let u : used (recordsFrom b i) (w .left) ≡ t .taken = used-of (recordsFrom b i) (t .taken) (recordsFrom b n) (w .left) (made-left m z) (t .is) in
+      then-took (rFramed 2 rOd) files (recordsFrom b i) m z (names-as (recordsFrom b n) (ap namesOf u) (f .is (t .taken) (t .walk)))
+
+-- EF.DIR's record, then the others
+module _ {b a c : List ℕ} {i : ℕ} {r : Made} (m : Makes b a c i 0 (rFramed 5 rDir (recordsFrom b i)) r) where
+  pub behind-long : r ≡ Long → Fitted a c 0 (framing 5 (rDir (recordsFrom b i) .bytes) ++ othersThanDir (recordsFrom b 0) .bytes) Long
+  behind-long z = beyond (omega (arith, made-long m z, length-append (framing 5 (rDir (recordsFrom b i) .bytes)) (othersThanDir (recordsFrom b 0) .bytes))) (makes-same m)
+
+  pub behind-took : {d : List ℕ} {n q : ℕ} {s : Made} → r ≡ Took n q → Makes b c d 0 q (othersThanDir (recordsFrom b 0)) s → Fitted a d 0 (framing 5 (rDir (recordsFrom b i) .bytes) ++ othersThanDir (recordsFrom b 0) .bytes) s
+  behind-took {d} {n} {q} z f = go f
     where
-      go′ : (y : List ℕ) {us us′ l l′ : List Rec} {s : Made} → us ≡ us′ → l ≡ l′ → Fitted a d o (y ++ rDirectories (namesOf us′) l′) s → Fitted a d o (y ++ rDirectories (namesOf us) l) s
-      go′ y u e f = rw (u, e) f
+      go : {w : Rendered} {s : Made} → Makes b c d 0 q w s → Fitted a d 0 (framing 5 (rDir (recordsFrom b i) .bytes) ++ w .bytes) s
+      go (makes _ g _ h) = fits (put-put (made-put m z) g) (omega (arith, makes-same m))
+      go (breaks {w} h e) = beyond (omega (arith, made-put m z .at, makes-same m, length-append (framing 5 (rDir (recordsFrom b i) .bytes)) (w .bytes))) (e ∙ makes-same m)
 
-      go : {x : List ℕ} {s : Made} → Fitted c d q x s → Fitted a d o (framing 2 (rOd (recordsFrom b i) .bytes) ++ x) s
-      go (fits g h) = fits (put-put (made-put m z) g) (omega (arith, makes-same m))
-      go {x} (beyond h g) = beyond (omega (arith, made-put m z .at, makes-same m, length-append (framing 2 (rOd (recordsFrom b i) .bytes)) x)) (g ∙ makes-same m)
+-- the whole, from all but EF.DIR's record
+module _ {b a c : List ℕ} {r : Made} (m : Makes b a c 0 0 (othersThanDir (recordsFrom b 0)) r) where
+  abbrev dir : List Rec → List ℕ
+  dir l = when (0x0200 ∷ []) (rFramed 5 rDir) l .bytes
 
--- CIAInfo's record, then these
-module _ (b : List ℕ) {a c : List ℕ} {r : Made} (m : Makes b a c 0 0 (gives (framing 1 (rCia (recordsFrom b 0) .bytes)) (rCia (recordsFrom b 0) .left)) r) where
+  render-is : render (records b) ≡ dir (othersThanDir (recordsFrom b 0) .left) ++ othersThanDir (recordsFrom b 0) .bytes
+  unfolding render recordsFrom
+  render-is = refl
+
   pub whole-long : r ≡ Long → Fitted a c 0 (render (records b)) Long
-  unfolding render recordsFrom
   whole-long z =
-      let w = rCia (records b) in
-      let o = rOd (w .left) in
-      beyond (omega (arith, made-long m z, length-append (framing 1 (w .bytes)) (framing 2 (o .bytes) ++ rDirectories (namesOf (used (w .left) (o .left))) (o .left)))) (makes-same m)
+      let w = othersThanDir (recordsFrom b 0) in
+      rw render-is (beyond (omega (arith, made-long m z, length-append (dir (w .left)) (w .bytes))) (makes-same m))
 
-  pub whole-took : {d : List ℕ} {n q : ℕ} {s : Made} → r ≡ Took n q → TwoMade b c d n q s → Fitted a d 0 (render (records b)) s
-  unfolding render recordsFrom
-  whole-took {d} {n} {q} {s} z f =
-      let e : rCia (records b) .left ≡ recordsFrom b n = made-left m z in
-      rw e (go (f .is))
-    where
-      go : {x : List ℕ} {s : Made} → Fitted c d q x s → Fitted a d 0 (framing 1 (rCia (recordsFrom b 0) .bytes) ++ x) s
-      go (fits g h) = fits (put-put (made-put m z) g) (omega (arith, makes-same m))
-      go {x} (beyond h g) = beyond (omega (arith, made-put m z .at, makes-same m, length-append (framing 1 (rCia (recordsFrom b 0) .bytes)) x)) (g ∙ makes-same m)
+  module _ {n q : ℕ} (z : r ≡ Took n q) {t : Bool} (e : t ≡ nextIs 0x0200 (recordsFrom b n)) where
+    next-dir : t ≡ nextAmong (0x0200 ∷ []) (othersThanDir (recordsFrom b 0) .left)
+    next-dir = rw (made-left m z) (next-one 0x0200 (recordsFrom b n) e)
+
+    pub whole-alone : t ≡ false → Fitted a c 0 (render (records b)) (Took n q)
+    whole-alone y =
+        let w = othersThanDir (recordsFrom b 0) in
+        let u : render (records b) ≡ w .bytes = render-is ∙ ap (λ (v : Rendered). v .bytes ++ w .bytes) (when-not (0x0200 ∷ []) (rFramed 5 rDir) (w .left) (sym next-dir ∙ y)) in
+        rw u (fits (made-put m z) (omega (arith, made-room m z, makes-same m)))
+
+    pub whole-behind : {d : List ℕ} {s : Made} → t ≡ true → Fitted c d 0 (framing 5 (rDir (recordsFrom b n) .bytes) ++ othersThanDir (recordsFrom b 0) .bytes) s → Fitted a d 0 (render (records b)) s
+    whole-behind {d} {s} y f =
+        let w = othersThanDir (recordsFrom b 0) in
+        let x : dir (w .left) ≡ framing 5 (rDir (w .left) .bytes) = ap (λ (v : Rendered). v .bytes) (when-is (0x0200 ∷ []) (rFramed 5 rDir) (w .left) (sym next-dir ∙ y)) in
+        let u : dir (w .left) ≡ framing 5 (rDir (recordsFrom b n) .bytes) = x ∙ ap (λ (l : List Rec). framing 5 (rDir l .bytes)) (made-left m z) in
+        rw (render-is ∙ ap (λ (l : List ℕ). l ++ w .bytes) u) (go (framing 5 (rDir (recordsFrom b n) .bytes)) f)
+      where
+        go : (x : List ℕ) {s : Made} → Fitted c d 0 (x ++ othersThanDir (recordsFrom b 0) .bytes) s → Fitted a d 0 (x ++ othersThanDir (recordsFrom b 0) .bytes) s
+        go x (fits g h) = fits (put-again (made-put m z) g (omega (arith, made-put m z .at, g .at, length-append x (othersThanDir (recordsFrom b 0) .bytes))) (omega (arith, makes-same m))) (omega (arith, makes-same m))
+        go x (beyond g h) = beyond (omega (arith, makes-same m)) (h ∙ makes-same m)
 
 -- the walk goes on
 pub filing-less : {b : List ℕ} {k e : ℕ} (end : ℕ) → Ends b k e → k < end → end - e < end - k

@@ -1,2 +1,2 @@
-pub mod Making
+pub mod MakingFiles
 pub mod Composed

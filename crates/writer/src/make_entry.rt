@@ -1,11 +1,11 @@
-use crate::leaf::make_fill;
-use crate::leaf::make_part;
-use crate::leaf::make_sequence;
-use crate::leaf::part_element;
-use crate::made::Made;
-use crate::made::closed;
-use crate::made::opened;
-use crate::make_object::make_objects;
+use makers::Made;
+use makers::closed;
+use makers::make_fill;
+use makers::make_objects;
+use makers::make_part;
+use makers::make_sequence;
+use makers::opened;
+use makers::part_element;
 use rules::Sequence;
 use rules::byte_at;
 use rules::is_next;
@@ -15,7 +15,8 @@ ghost use Prim.Native.Nat.{_+_, _≤_};
 ghost use lib.ListN.{length};
 ghost use Rattle.rules.specs.Render.{rAll, rInside, rEntry, rCia, rOd, rDirectory};
 ghost use Rattle.rules.specs.Book.{recordsFrom, Ends};
-ghost use Rattle.writer.specs.Making.{Making, Makes, Onward, Tail};
+ghost use Rattle.makers.specs.Making.{Making, Makes, Onward};
+ghost use Rattle.writer.specs.MakingFiles.{Tail};
 
 // Where an entry's own bytes start, behind its tag and the byte that says what it is.
 fn tail_of(i: usize, e: usize) -> usize

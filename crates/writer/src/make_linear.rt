@@ -1,7 +1,7 @@
-use crate::made::Made;
-use crate::made::opened;
 use crate::make_entry::make_directory;
 use elements::put_le16;
+use makers::Made;
+use makers::opened;
 use rules::is_next;
 use rules::record_end;
 ghost use mathlib.Core.List.{[], _∷_};
@@ -9,7 +9,8 @@ ghost use Prim.Native.Nat.{_+_, _≤_};
 ghost use lib.ListN.{length};
 ghost use Rattle.rules.specs.Render.{rAll, rRecordIn, rLinear};
 ghost use Rattle.rules.specs.Book.{recordsFrom};
-ghost use Rattle.writer.specs.Making.{Making, Makes, Onward, Ended, Closed, behindLength};
+ghost use Rattle.makers.specs.Making.{Making, Makes, Onward, Ended, Closed};
+ghost use Rattle.writer.specs.MakingFiles.{behindLength};
 
 // The length of a record of a record file goes in front of its bytes, which were made behind these two.
 fn lengthed(out: &mut [u8], o: usize, made: Made) -> Made

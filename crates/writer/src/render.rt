@@ -1,20 +1,24 @@
-use crate::made::Made;
-use crate::made::opened;
 use crate::make_entry::make_cia;
 use crate::make_entry::make_directory;
 use crate::make_entry::make_od;
 use crate::make_linear::make_linear;
+use crate::make_template::make_dir;
 use elements::put_byte;
 use elements::put_le16;
 use elements::put_part;
+use makers::Made;
+use makers::opened;
 use rules::is_name;
 use rules::is_next;
 use rules::record_end;
+ghost use mathlib.Core.List.{_++_};
 ghost use Prim.Native.Nat.{_+_, _≤_};
 ghost use lib.ListN.{length};
-ghost use Rattle.rules.specs.Book.{records};
-ghost use Rattle.rules.specs.Render.{framing, render};
-ghost use Rattle.writer.specs.Making.{Steps, Making, Ended, Closed, Fitted, Named, FileMade, FilesMade, TwoMade};
+ghost use Rattle.rules.specs.Book.{records, recordsFrom};
+ghost use Rattle.rules.specs.Render.{rDir, framing, render};
+ghost use Rattle.makers.specs.Making.{Steps, Making, Makes, Ended, Closed};
+ghost use Rattle.writer.specs.Composed.{odAndFiles, othersThanDir};
+ghost use Rattle.writer.specs.MakingFiles.{Fitted, Named, FileMade, FilesMade};
 
 // The length and kind of a dump record at o go in front of its contents, which were made behind these four bytes.
 fn fronted(out: &mut [u8], o: usize, kind: u16, made: Made) -> Made
@@ -91,7 +95,7 @@ fn make_files(b: &[u8], j: usize, end: usize, i: usize, out: &mut [u8], o: usize
 // EF.OD's record and the files that it names.
 fn make_rest(b: &[u8], i: usize, out: &mut [u8], o: usize) -> Made
     requires { ⌜ Making (now b) i (now out) o ⌝ }
-    ensures { λ r. ⌜ TwoMade (now (b .entry)) (now (out .entry)) (now (out .exit)) i o r ⌝ }
+    ensures { λ r. ⌜ Makes (now (b .entry)) (now (out .entry)) (now (out .exit)) i o (odAndFiles (recordsFrom (now (b .entry)) i)) r ⌝ }
 {
     let made = make_od(b, i, out, opened(out.len(), o, 4));
     match fronted(out, o, 2, made) {
@@ -100,14 +104,42 @@ fn make_rest(b: &[u8], i: usize, out: &mut [u8], o: usize) -> Made
     }
 }
 
-// The one dump that could have this book.
+// CIAInfo's record, then these.
+fn make_all(b: &[u8], i: usize, out: &mut [u8], o: usize) -> Made
+    requires { ⌜ Making (now b) i (now out) o ⌝ }
+    ensures { λ r. ⌜ Makes (now (b .entry)) (now (out .entry)) (now (out .exit)) i o (othersThanDir (recordsFrom (now (b .entry)) i)) r ⌝ }
+{
+    let made = make_cia(b, i, out, opened(out.len(), o, 4));
+    match fronted(out, o, 1, made) {
+        Made::Long => Made::Long,
+        Made::Took(n, q) => make_rest(b, n, out, q),
+    }
+}
+
+// EF.DIR's record from the book's 0200, which is at i, then the others once more behind it.
+fn make_behind_dir(b: &[u8], i: usize, out: &mut [u8]) -> Made
+    requires { ⌜ (i + 4 ≤ length (now b)) × Making (now b) i (now out) 0 ⌝ }
+    ensures { λ r. ⌜ Fitted (now (out .entry)) (now (out .exit)) 0 (framing 5 (rDir (recordsFrom (now (b .entry)) i) .bytes) ++ othersThanDir (recordsFrom (now (b .entry)) 0) .bytes) r ⌝ }
+{
+    let made = make_dir(b, i, out, opened(out.len(), 0, 4));
+    match fronted(out, 0, 5, made) {
+        Made::Long => Made::Long,
+        Made::Took(_, q) => make_all(b, 0, out, q),
+    }
+}
+
+// The one dump that could have this book: "a dump record 0005" comes first, but its records stand last in the book.
 pub fn render_into(b: &[u8], out: &mut [u8]) -> Made
     requires { ⌜ (length (now b) ≤ 131072) × (length (now out) ≤ 32768) ⌝ }
     ensures { λ r. ⌜ Fitted (now (out .entry)) (now (out .exit)) 0 (render (records (now (b .entry)))) r ⌝ }
 {
-    let made = make_cia(b, 0, out, opened(out.len(), 0, 4));
-    match fronted(out, 0, 1, made) {
+    match make_all(b, 0, out, 0) {
         Made::Long => Made::Long,
-        Made::Took(n, q) => make_rest(b, n, out, q),
+        Made::Took(n, q) => {
+            if is_next(b, n, 0x0200) {
+                return make_behind_dir(b, n, out);
+            }
+            Made::Took(n, q)
+        }
     }
 }

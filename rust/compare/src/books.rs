@@ -25,6 +25,20 @@ pub fn compare(book: &[u8], rng: &mut Rng, counts: &mut Counts) -> Result<(), Di
     fields(book, refusal, rng, counts)
 }
 
+/// What stands before EF.DIR's records in a book that has them.
+pub fn without_templates(book: &[u8]) -> Option<&[u8]> {
+    let first = records(book)?.into_iter().find(|record| record.kind == 0x0200)?;
+    Some(&book[..first.at])
+}
+
+/// Compares the services on an accepted book without its EF.DIR; "the link list is the same with it and without it".
+pub fn compare_without(book: &[u8], without: &[u8], rng: &mut Rng, counts: &mut Counts) -> Result<(), Differ> {
+    if Ok(links::of_accepted(book)) != independent::links(without) {
+        return Err(Differ { what: "the list is another without EF.DIR".to_string(), input: book.to_vec() });
+    }
+    compare(without, rng, counts)
+}
+
 fn fields(book: &[u8], refusal: Option<(u32, usize)>, rng: &mut Rng, counts: &mut Counts) -> Result<(), Differ> {
     let times = if refusal.is_some() { 1 } else { 5 };
     for _ in 0..times {
@@ -48,6 +62,8 @@ fn object_and_kind(book: &[u8], rng: &mut Rng) -> (u32, u32) {
     for record in all {
         match record.kind {
             0x0120 => objects += 1,
+            // EF.DIR's records are no object's
+            0x0200.. => {}
             kind if objects > 0 => fields.push((objects - 1, u32::from(kind))),
             _ => {}
         }
@@ -61,10 +77,11 @@ fn object_and_kind(book: &[u8], rng: &mut Rng) -> (u32, u32) {
         return (any_object, rng.pick(&odd_kinds));
     }
     let (object, kind) = rng.pick(&fields);
-    match rng.below(8) {
+    match rng.below(9) {
         0 => (any_object, kind),
         1 => (object, rng.between(0x0121, 0x01FF) as u32),
         2 => (rng.draw() as u32, kind),
+        3 => (object, rng.between(0x0200, 0x0212) as u32),
         _ => (object, kind),
     }
 }

@@ -47,7 +47,7 @@ fn seed_of_the_clock() -> u64 {
     time.as_nanos() as u64 % 1_000_000_000
 }
 
-/// Reads a generated dump and, if it is accepted, uses its book and damaged copies of it.
+/// Reads a generated dump and, if it is accepted, uses its book, that book without EF.DIR, and damaged copies of it.
 fn one_input(seed: u64, index: u64, counts: &mut Counts) -> Result<(), Differ> {
     let mut rng = Rng::of_input(seed, index);
     let dump = dump(&mut rng);
@@ -55,6 +55,9 @@ fn one_input(seed: u64, index: u64, counts: &mut Counts) -> Result<(), Differ> {
         return Ok(());
     };
     books::compare(&book, &mut rng, counts)?;
+    if let Some(without) = books::without_templates(&book) {
+        books::compare_without(&book, without, &mut rng, counts)?;
+    }
     for _ in 0..2 {
         let damaged = independent::generate::damaged_book(&mut rng, &book);
         books::compare(&damaged, &mut rng, counts)?;

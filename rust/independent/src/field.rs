@@ -21,7 +21,7 @@ fn find<'a>(all: &[Record<'a>], object: u32, kind: u32) -> Option<Record<'a>> {
     own.into_iter().find(|r| u32::from(r.kind) == kind).copied()
 }
 
-/// An object's records go up to the next object, entry, fill, file or record of a file.
+/// An object's records go up to the next object, entry, fill, file or record of a file, or up to EF.DIR's.
 fn ends_object(kind: u16) -> bool {
-    matches!(kind, 0x0120 | 0x0110 | 0x0107 | 0x0118 | 0x0119 | 0x011A)
+    matches!(kind, 0x0120 | 0x0110 | 0x0107 | 0x0118 | 0x0119 | 0x011A | 0x0200)
 }

@@ -5,14 +5,14 @@ pub type Refusal = (u32, usize);
 
 /// dump over 32,768 bytes
 pub const SIZE: u32 = 1;
-/// a dump record is broken, missing, of the wrong kind, or a file or path length is not allowed, or a record length
-/// runs over
+/// a dump record is broken, missing, of the wrong kind or elsewhere than it may be, or a file or path length is not
+/// allowed, or a record length runs over
 pub const FRAME: u32 = 2;
 /// bad or cut-off tag form, or not the component due here, or one more than is due
 pub const TAG: u32 = 3;
 /// bad length form, cut off, or beyond its container
 pub const LENGTH: u32 = 4;
-/// container ends early
+/// container ends early, or a template of ours has neither path nor 73
 pub const MISSING: u32 = 5;
 /// BOOLEAN not one byte of 00 or FF
 pub const BOOLEAN: u32 = 61;

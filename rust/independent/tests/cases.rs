@@ -2,18 +2,10 @@
 
 mod common;
 
-use common::{hex, with_condition, with_od};
+use common::{hex, shared, with_condition, with_od};
 use independent::read::element::element;
 use independent::read::values;
 use independent::{field, links, read, write};
-
-/// The shared case: 105 bytes.
-fn shared() -> Vec<u8> {
-    hex("0A000100 3006020101030100
-         12000200 A006300404024401 A806300404024404
-         23000300024401 301C 3003040101 30070401010302 0520 A10C300A300404024B0102020800
-         22000300024404 301B 3003040102 3003040101 A10F300D030203080A0101020104020108")
-}
 
 #[test]
 fn shared_case() {

@@ -43,7 +43,7 @@ const FAULTS: [(u32, &[u8]); 8] = [
     (62, &[0x02, 0x0A, 0x80]),
     (63, &[0x03]),
     (64, &[0x03]),
-    (65, &[0x0C, 0x80]),
+    (65, &[0x0C, 0x50, 0x80]),
     (66, &[0x18, 0x80]),
     (67, &[0x05]),
     (68, &[0x01, 0x80]),
@@ -73,7 +73,7 @@ fn linear_files(book: &[u8]) -> Vec<Vec<Vec<Record<'_>>>> {
     let mut inside = false;
     for record in records(book).unwrap() {
         match record.kind {
-            0x0118 => inside = false,
+            0x0118 | 0x0200 => inside = false,
             0x0119 => {
                 inside = true;
                 files.push(vec![]);
@@ -110,6 +110,9 @@ fn record_files_of_every_sort_are_seen() {
     assert!(sorts.concat().iter().all(|count| *count >= 20), "{sorts:?}");
 }
 
+/// The kinds of records that hold texts.
+const LABELS: [u16; 4] = [0x0103, 0x0104, 0x0121, 0x0203];
+
 #[test]
 fn labels_of_every_width_are_seen() {
     let (mut labels, mut long, mut mixed) = (0, 0, 0);
@@ -117,7 +120,7 @@ fn labels_of_every_width_are_seen() {
     let mut most = [0; 4];
     for index in 0..3000 {
         let book = read(&card::valid(&mut Rng::of_input(4, index)).encode()).unwrap();
-        for label in records(&book).unwrap().iter().filter(|record| matches!(record.kind, 0x0103 | 0x0104 | 0x0121)) {
+        for label in records(&book).unwrap().iter().filter(|record| LABELS.contains(&record.kind)) {
             let bytes = label.payload.len();
             let characters = std::str::from_utf8(label.payload).unwrap().chars().count();
             labels += 1;

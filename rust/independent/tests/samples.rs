@@ -22,6 +22,13 @@ fn record_files() {
     book(include_bytes!("../../../samples/record-files.dump"), [426, 416], &rows);
 }
 
+/// The same behind an EF.DIR of two templates: 4 bytes of record, 53, 51 and 16 of fill more; in the book 141.
+#[test]
+fn two_applications() {
+    let rows = [[1, 0, 97, 3], [3, 0, 110, 2], [1, 1, 196, 3], [3, 1, 201, MISSING]];
+    book(include_bytes!("../../../samples/two-applications.dump"), [548, 557], &rows);
+}
+
 /// Labels in Greek and English, that of the PIN in 222 characters.
 #[test]
 fn two_scripts() {

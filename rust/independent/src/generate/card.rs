@@ -1,13 +1,13 @@
 //! Whole cards.
 
 use super::fat::fat;
-use super::flaw::{Flaw, FLAWS};
-use super::maker::Maker;
+use super::flaw::{Flaw, FLAWS, TEMPLATE_FLAWS};
+use super::maker::{spare_maker, Maker};
 use super::node::{group, leaf, Card, File, Node};
 use super::rng::Rng;
 
-const LARGEST_DUMP: usize = 32_768;
-const LARGEST_FILE: usize = 16_383;
+pub const LARGEST_DUMP: usize = 32_768;
+pub const LARGEST_FILE: usize = 16_383;
 /// How many of a hundred cards may have record files, so that about a third of all have one.
 const LINEAR: usize = 52;
 
@@ -23,12 +23,34 @@ pub fn valid(rng: &mut Rng) -> Card {
 
 /// A card that is accepted and has a record file.
 pub fn valid_with_records(rng: &mut Rng) -> Card {
+    valid_with(rng, Card::has_linear)
+}
+
+/// A card that is accepted and has an EF.DIR.
+pub fn valid_with_templates(rng: &mut Rng) -> Card {
+    valid_with(rng, |card| card.templates.is_some())
+}
+
+fn valid_with(rng: &mut Rng, wanted: fn(&Card) -> bool) -> Card {
     loop {
         let card = valid(rng);
-        if card.has_linear() {
+        if wanted(&card) {
             return card;
         }
     }
+}
+
+/// A card with an EF.DIR that may have one or two of the flaws; all else is right.
+pub fn flawed_templates(rng: &mut Rng) -> Card {
+    let mut card = valid(rng);
+    let mut flaws = vec![rng.pick(&TEMPLATE_FLAWS)];
+    if rng.chance(20) {
+        flaws.push(rng.pick(&TEMPLATE_FLAWS));
+    }
+    let mut maker = spare_maker(rng);
+    (maker.flaws, maker.often) = (flaws, true);
+    card.templates = Some(maker.template_file());
+    card
 }
 
 /// A card that may have one or two of the flaws.
@@ -43,7 +65,8 @@ pub fn flawed(rng: &mut Rng) -> Card {
 fn fits(card: &Card) -> bool {
     let short = |bytes: Vec<u8>| bytes.len() <= LARGEST_FILE;
     let files_fit = card.files.iter().all(|(_, file)| short(file.encode()));
-    files_fit && short(card.info.encode()) && short(card.directory.encode()) && card.encode().len() <= LARGEST_DUMP
+    let first_fit = card.templates.iter().chain([&card.info, &card.directory]).all(|file| short(file.encode()));
+    first_fit && files_fit && card.encode().len() <= LARGEST_DUMP
 }
 
 fn made(rng: &mut Rng, flaws: Vec<Flaw>) -> Card {
@@ -54,7 +77,7 @@ fn made(rng: &mut Rng, flaws: Vec<Flaw>) -> Card {
     let about_cards = flaws.iter().any(|flaw| matches!(flaw, Flaw::Many | Flaw::Size | Flaw::Twice | Flaw::Path));
     let small = !about_cards && rng.chance(if flaws.is_empty() { 30 } else { 70 });
     let linear = flaws.contains(&Flaw::Second) || rng.chance(LINEAR);
-    let mut maker = Maker { rng, flaws, pool, own, taken: vec![], left, small, linear };
+    let mut maker = Maker { rng, flaws, often: false, pool, own, taken: vec![], left, small, linear };
     if small {
         maker.small_card()
     } else {
@@ -80,14 +103,16 @@ impl Maker<'_> {
     fn small_card(&mut self) -> Card {
         let parts = vec![leaf(0x02, vec![1]), leaf(0x03, vec![0])];
         let info = File { nodes: vec![group(0x30, parts)], fill: (0, 0) };
-        let mut card = Card { info, directory: File { nodes: vec![], fill: (0, 0) }, files: vec![] };
+        let directory = File { nodes: vec![], fill: (0, 0) };
+        let mut card = Card { templates: self.templates(), info, directory, files: vec![] };
         self.left = self.rng.between(1, 2);
         self.entry(&mut card, false);
         card
     }
 
     fn card(&mut self) -> Card {
-        let mut card = Card { info: self.info(), directory: File { nodes: vec![], fill: (0, 0) }, files: vec![] };
+        let directory = File { nodes: vec![], fill: (0, 0) };
+        let mut card = Card { templates: self.templates(), info: self.info(), directory, files: vec![] };
         let most = if self.rng.chance(15) { 9 } else { 3 };
         let fewest = usize::from(self.rng.chance(90));
         let entries = self.rng.between(fewest, most);
@@ -217,7 +242,7 @@ impl Maker<'_> {
     fn lengthen(&mut self, card: &mut Card) {
         let over = usize::from(self.flaw(Flaw::Size));
         let all = self.rng.chance(50);
-        let chosen = self.rng.below(card.files.len() + 2);
+        let chosen = self.rng.below(card.lengths().len());
         let mut left = LARGEST_DUMP.saturating_sub(card.encode().len()) + over;
         for (index, (length, part)) in card.lengths().into_iter().enumerate() {
             let bound = if all { LARGEST_FILE } else { LARGEST_FILE + over };

@@ -1,6 +1,8 @@
-//! A card whose book is as long as a book can be, some of them over 65,536 bytes: the most objects with the most numbers,
-//! and for the rest of the dump lists of conditions, which take two bytes each and have records of four; or as many
-//! records as fit into the files, of one byte, which take three and have eleven in the book, or of none.
+//! A card whose book is as long as a book can be, some of them over 65,536 bytes: the most objects with the most
+//! numbers, and for the rest of the dump lists of conditions, which take two bytes each and have records of four; or as
+//! many records as fit into the files, of one byte, which take three and have eleven in the book, or of none. In place
+//! of one of the two files there may be an EF.DIR of elements of two bytes, which have six in the book, or of short
+//! templates.
 
 use super::node::{group, leaf, Card, DirectoryFile, File, Node};
 use super::rng::Rng;
@@ -10,14 +12,24 @@ const FILE: usize = 16_363;
 
 pub fn fat(rng: &mut Rng) -> Card {
     let bound = FILE - rng.pick(&[0, 1, 200, 300]);
-    let paths = [vec![1], vec![2]];
+    let templates = if rng.chance(30) { Some(templates(rng, bound)) } else { None };
+    let paths = if templates.is_some() { vec![vec![1]] } else { vec![vec![1], vec![2]] };
     let files = if rng.chance(60) { [file(bound), file(bound)] } else { [records(rng, bound), records(rng, bound)] };
     let entry = |path: &Vec<u8>| group(0xA8, vec![group(0x30, vec![leaf(0x04, path.clone())])]);
     Card {
+        templates,
         info: File { nodes: vec![group(0x30, vec![leaf(0x02, vec![1]), leaf(0x03, vec![0])])], fill: (0, 0) },
         directory: File { nodes: paths.iter().map(entry).collect(), fill: (0, 0) },
         files: paths.into_iter().zip(files).collect(),
     }
+}
+
+/// Short elements of one sort up to the bound.
+fn templates(rng: &mut Rng, bound: usize) -> File {
+    let template = group(0x61, vec![leaf(0x4F, vec![rng.byte()])]);
+    let element = rng.pick(&[leaf(0x05, vec![]), template]);
+    let count = bound / element.encode().len();
+    File { nodes: vec![element; count], fill: (0, 0) }
 }
 
 /// Records of one byte of fill, or of nothing, up to the bound.

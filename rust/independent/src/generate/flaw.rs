@@ -40,9 +40,11 @@ pub enum Flaw {
     Size,
     /// A second object in a record, or what begins like one.
     Second,
+    /// A template of ours without path and 73, or what is wrong with the layout of one.
+    Template,
 }
 
-pub const FLAWS: [Flaw; 21] = [
+pub const FLAWS: [Flaw; 22] = [
     Flaw::Integer,
     Flaw::Flags,
     Flaw::Text,
@@ -64,12 +66,30 @@ pub const FLAWS: [Flaw; 21] = [
     Flaw::Many,
     Flaw::Size,
     Flaw::Second,
+    Flaw::Template,
+];
+
+/// The flaws that an EF.DIR can have, its layout's more often.
+pub const TEMPLATE_FLAWS: [Flaw; 12] = [
+    Flaw::Integer,
+    Flaw::Text,
+    Flaw::Characters,
+    Flaw::Octets,
+    Flaw::Octets,
+    Flaw::Length,
+    Flaw::Tag,
+    Flaw::Depth,
+    Flaw::Rest,
+    Flaw::Rule,
+    Flaw::Template,
+    Flaw::Template,
 ];
 
 impl Maker<'_> {
     /// Whether what comes next shall have this flaw: never, unless the card is made for it.
     pub fn flaw(&mut self, flaw: Flaw) -> bool {
         let percent = match flaw {
+            _ if self.often => 50,
             Flaw::Integer | Flaw::Flags | Flaw::Tag | Flaw::Identifier => 12,
             Flaw::Characters | Flaw::Default | Flaw::Second => 80,
             _ => 40,

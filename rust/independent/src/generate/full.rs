@@ -18,6 +18,7 @@ pub fn full(rng: &mut Rng) -> Card {
         records[last].nodes.extend(more);
     }
     Card {
+        templates: None,
         info: record(vec![group(0x30, vec![leaf(0x02, vec![1]), leaf(0x03, vec![0])])]),
         directory: record(vec![inline, named]),
         files: vec![(vec![0x44], DirectoryFile::Linear(records))],

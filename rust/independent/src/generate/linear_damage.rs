@@ -1,7 +1,7 @@
 //! Damage to record files. The lengths of the dump's records are right afterwards, those inside the file not always.
 
 use super::bytes;
-use super::node::{with_length, Record};
+use super::node::{places, with_length, Record};
 use super::rng::Rng;
 use crate::read::linear;
 
@@ -13,8 +13,7 @@ const ENDS: [&[u8]; 6] = [b"\x00", b"\xFF", b"\x30", b"\x01\x00", b"\xFF\xFF", b
 
 /// Damages one of the files among these records of a dump, mostly a record file.
 pub fn damage(rng: &mut Rng, dump: &mut [Record]) {
-    let places = |kinds: &[u16]| (0..dump.len()).filter(|at| kinds.contains(&dump[*at].kind)).collect::<Vec<_>>();
-    let (linear, any) = (places(&[4]), places(&[3, 4]));
+    let (linear, any) = (places(dump, &[4]), places(dump, &[3, 4]));
     if linear.is_empty() {
         return;
     }

@@ -9,6 +9,8 @@ pub struct Maker<'a> {
     pub rng: &'a mut Rng,
     /// The flaws that the card may have; a card without any is accepted.
     pub flaws: Vec<Flaw>,
+    /// Whether the flaws shall be frequent, as they have to be where few components can have them.
+    pub often: bool,
     /// Identifiers to choose from, few enough that links answer, miss and repeat.
     pub pool: Vec<Vec<u8>>,
     /// Own authIds that are still free, so that none repeats.
@@ -21,6 +23,13 @@ pub struct Maker<'a> {
     pub small: bool,
     /// Whether the card may have record files.
     pub linear: bool,
+}
+
+/// Makes elements and values for a card that is there already.
+pub fn spare_maker(rng: &mut Rng) -> Maker<'_> {
+    let pool = vec![vec![1], vec![]];
+    let nothing = vec![];
+    Maker { rng, flaws: vec![], often: false, pool, own: nothing, taken: vec![], left: 0, small: false, linear: false }
 }
 
 impl Maker<'_> {
@@ -36,7 +45,7 @@ impl Maker<'_> {
     }
 
     /// A length that is one byte longer than the shortest form, where that form just changes.
-    fn odd_length(&mut self, tag: u8) -> Node {
+    pub fn odd_length(&mut self, tag: u8) -> Node {
         let count = self.rng.pick(&[0, 1, 127, 128, 255]);
         let bytes = if count < 128 { vec![0x81, count] } else { vec![0x82, 0, count] };
         let mut node = leaf(tag, vec![5; count.into()]);

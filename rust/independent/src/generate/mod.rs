@@ -14,11 +14,15 @@ mod object;
 mod openings;
 pub mod rng;
 mod sealed;
+mod template_flaws;
+mod template_records;
+mod templates;
+mod templates_damage;
 mod text;
 mod tree;
 
-use maker::Maker;
-use node::Card;
+use maker::spare_maker;
+use node::{Card, Record};
 pub use rng::Rng;
 
 /// A dump, whole in a third of the cases and otherwise damaged.
@@ -26,7 +30,7 @@ pub fn dump(rng: &mut Rng) -> Vec<u8> {
     if rng.chance(33) {
         return card::valid(rng).encode();
     }
-    match rng.below(53) {
+    match rng.below(61) {
         0..=11 => damaged_tree(rng),
         12..=28 => card::flawed(rng).encode(),
         29..=34 => damaged_bytes(rng),
@@ -34,6 +38,7 @@ pub fn dump(rng: &mut Rng) -> Vec<u8> {
         41 => damaged_fill(rng),
         42..=47 => damaged_records(rng),
         48..=51 => damaged_value(rng),
+        52..=59 => damaged_templates(rng),
         _ => full::full(rng).encode(),
     }
 }
@@ -60,12 +65,6 @@ fn damaged_value(rng: &mut Rng) -> Vec<u8> {
     let mut card = card::valid(rng);
     tree::damage_value(&mut spare_maker(rng), &mut card);
     card.encode()
-}
-
-/// Makes elements and values for a card that is there already.
-fn spare_maker(rng: &mut Rng) -> Maker<'_> {
-    let pool = vec![vec![1], vec![]];
-    Maker { rng, flaws: vec![], pool, own: vec![], taken: vec![], left: 0, small: false, linear: false }
 }
 
 /// A card with bytes flipped, cut, added, taken, or a length changed; nothing is repaired.
@@ -96,9 +95,34 @@ fn damaged_records(rng: &mut Rng) -> Vec<u8> {
         linear_damage::damage(rng, &mut records);
     }
     if rng.chance(10) {
-        bytes::damage(rng, &mut records[0].payload);
+        damage_info(rng, &mut records);
     }
     node::join(&records)
+}
+
+/// Damages the bytes of CIAInfo, if it is there.
+fn damage_info(rng: &mut Rng, records: &mut [Record]) {
+    if let Some(info) = records.iter_mut().find(|record| record.kind == 1) {
+        bytes::damage(rng, &mut info.payload);
+    }
+}
+
+/// A card with a flaw in its EF.DIR, or with the tree or the dump record of that damaged; sometimes CIAInfo too, which
+/// is read after it, or a frame behind it or the dump's size, which are looked at before.
+fn damaged_templates(rng: &mut Rng) -> Vec<u8> {
+    let mut records = match rng.below(10) {
+        0..=4 => card::flawed_templates(rng).records(),
+        5 | 6 => templates_damage::damaged_tree(rng).records(),
+        _ => templates_damage::damaged_frames(rng),
+    };
+    if rng.chance(15) {
+        damage_info(rng, &mut records);
+    }
+    let mut dump = node::join(&records);
+    if rng.chance(12) {
+        templates_damage::damage_end(rng, &mut dump);
+    }
+    dump
 }
 
 /// A card with fill in which one byte differs; the last element of that file or record may be lacking, too.
@@ -125,7 +149,11 @@ pub fn damaged_book(rng: &mut Rng, book: &[u8]) -> Vec<u8> {
         openings::damage(rng, &mut all);
         return node::join(&all);
     }
-    let texts = text::places(&all);
+    if rng.chance(template_records::percent(&all)) {
+        template_records::damage(rng, &mut all);
+        return node::join(&all);
+    }
+    let texts = node::places(&all, &text::KINDS);
     if !texts.is_empty() && rng.chance(6) {
         all[rng.pick(&texts)].payload = text::at_the_bound(rng);
         return node::join(&all);

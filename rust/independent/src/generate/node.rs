@@ -36,6 +36,8 @@ pub enum DirectoryFile {
 /// A whole card. The files of the EF.OD entries that name a path come with that path.
 #[derive(Clone, Debug)]
 pub struct Card {
+    /// EF.DIR, if the dump has it.
+    pub templates: Option<File>,
     pub info: File,
     pub directory: File,
     pub files: Vec<(Vec<u8>, DirectoryFile)>,
@@ -125,8 +127,10 @@ pub fn with_length(bytes: &[u8]) -> Vec<u8> {
 impl Card {
     /// The dump's records.
     pub fn records(&self) -> Vec<Record> {
-        let mut all =
-            vec![Record { kind: 1, payload: self.info.encode() }, Record { kind: 2, payload: self.directory.encode() }];
+        let mut all = Vec::new();
+        all.extend(self.templates.iter().map(|file| Record { kind: 5, payload: file.encode() }));
+        all.push(Record { kind: 1, payload: self.info.encode() });
+        all.push(Record { kind: 2, payload: self.directory.encode() });
         for (path, file) in &self.files {
             let payload = [vec![path.len() as u8], path.clone(), file.encode()].concat();
             all.push(Record { kind: file.kind(), payload });
@@ -138,19 +142,19 @@ impl Card {
         join(&self.records())
     }
 
-    /// All that hold elements and fill, CIAInfo first: files, and of a record file its records.
+    /// All that hold elements and fill, in the dump's order: files, and of a record file its records.
     pub fn all_parts(&mut self) -> Vec<&mut File> {
-        let mut all = vec![&mut self.info, &mut self.directory];
+        let mut all: Vec<&mut File> = self.templates.iter_mut().collect();
+        all.extend([&mut self.info, &mut self.directory]);
         all.extend(self.files.iter_mut().flat_map(|(_, file)| file.parts()));
         all
     }
 
-    /// The length of each file, CIAInfo first, with what ends it: the file itself, or the last record if there is one.
+    /// The length of each file, in the dump's order, with what ends it: the file itself, or the last record if there is
+    /// one.
     pub fn lengths(&mut self) -> Vec<(usize, Option<&mut File>)> {
-        let mut all = vec![
-            (self.info.encode().len(), Some(&mut self.info)),
-            (self.directory.encode().len(), Some(&mut self.directory)),
-        ];
+        let first = self.templates.iter_mut().chain([&mut self.info, &mut self.directory]);
+        let mut all: Vec<(usize, Option<&mut File>)> = first.map(|file| (file.encode().len(), Some(file))).collect();
         all.extend(self.files.iter_mut().map(|(_, file)| (file.encode().len(), file.parts().last_mut())));
         all
     }
@@ -175,4 +179,9 @@ pub fn join(records: &[Record]) -> Vec<u8> {
         add(&mut out, record.kind, payload);
     }
     out
+}
+
+/// Where the records of these kinds are.
+pub fn places(all: &[Record], kinds: &[u16]) -> Vec<usize> {
+    (0..all.len()).filter(|at| kinds.contains(&all[*at].kind)).collect()
 }

@@ -210,7 +210,7 @@ impl Maker<'_> {
 
     pub fn path(&mut self) -> Node {
         let mut parts = vec![self.octets(0x04, 0, 64)];
-        if self.option(30, &[Flaw::Rule]) {
+        if self.option(30, &[Flaw::Integer, Flaw::Rule]) {
             parts.push(self.integer(0x02, 0, 65_535));
             parts.push(self.integer(0x80, 0, 65_535));
             if self.flaw(Flaw::Rule) {

@@ -1,6 +1,6 @@
 //! Damage to the records of a book that open a file or a record, and to the fill beside them.
 
-use super::node::Record;
+use super::node::{places, Record};
 use super::rng::Rng;
 
 /// What opens a file.
@@ -53,10 +53,6 @@ pub fn damage(rng: &mut Rng, all: &mut Vec<Record>) {
         }
         _ => all.insert(anywhere, Record { kind: RECORD, payload: vec![] }),
     }
-}
-
-fn places(all: &[Record], kinds: &[u16]) -> Vec<usize> {
-    (0..all.len()).filter(|at| kinds.contains(&all[*at].kind)).collect()
 }
 
 /// Moves a record of the book by one or a few places.

@@ -26,7 +26,7 @@ impl Maker<'_> {
         }
     }
 
-    fn tag_number(&mut self) -> Vec<u8> {
+    pub fn tag_number(&mut self) -> Vec<u8> {
         let low = self.rng.byte() & 0x7F;
         let middle = self.rng.byte() | 0x80;
         match self.rng.below(3) {

@@ -2,7 +2,7 @@
 
 use super::flaw::Flaw;
 use super::maker::Maker;
-use super::node::{leaf, Node, Record};
+use super::node::{leaf, Node};
 use super::rng::Rng;
 use crate::read::values::days;
 
@@ -60,10 +60,8 @@ const NO_TIME: [(usize, &[u8; 2]); 13] = [
     (13, b"0z"),
 ];
 
-/// Where a book has texts.
-pub fn places(all: &[Record]) -> Vec<usize> {
-    (0..all.len()).filter(|at| matches!(all[*at].kind, 0x0103 | 0x0104 | 0x0121)).collect()
-}
+/// The kinds of book records that hold texts.
+pub const KINDS: [u16; 4] = [0x0103, 0x0104, 0x0121, 0x0203];
 
 /// A text of as many characters as it may have, one less, or one too many.
 pub fn at_the_bound(rng: &mut Rng) -> Vec<u8> {

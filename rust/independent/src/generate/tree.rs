@@ -3,16 +3,22 @@
 use super::maker::Maker;
 use super::node::{group, Body, Card, File, Node};
 use super::text;
+use crate::read::templates::OURS;
 use crate::write::element::{flag_contents, integer_contents};
 
 /// The tags that tell what a value may be.
-const VALUES: [u8; 8] = [0x01, 0x02, 0x03, 0x05, 0x0A, 0x0C, 0x18, 0x80];
+const VALUES: [u8; 9] = [0x01, 0x02, 0x03, 0x05, 0x0A, 0x0C, 0x18, 0x50, 0x80];
 
 /// Damages one element of the card.
 pub fn damage(maker: &mut Maker, card: &mut Card) {
     let mut files: Vec<&mut File> = card.all_parts().into_iter().filter(|file| !file.nodes.is_empty()).collect();
     let count = files.len();
     let file = files.swap_remove(maker.rng.below(count));
+    damage_file(maker, file);
+}
+
+/// Damages one element of a file that has one.
+pub fn damage_file(maker: &mut Maker, file: &mut File) {
     let (list, at) = choose(maker, &mut file.nodes);
     match maker.rng.below(15) {
         0 | 1 => {
@@ -33,7 +39,7 @@ pub fn damage(maker: &mut Maker, card: &mut Card) {
         }
         _ => {
             let inner = list.remove(at);
-            let tag = maker.rng.pick(&[0x30, 0xA0, 0xA1]);
+            let tag = maker.rng.pick(&[0x30, 0xA0, 0xA1, 0x61, 0x73]);
             list.insert(at, group(tag, vec![inner]));
         }
     }
@@ -72,8 +78,11 @@ fn other_value(maker: &mut Maker, node: &mut Node) {
         0x01 => vec![maker.rng.pick(&[0x00, 0x01, 0xFF])],
         0x02 | 0x0A | 0x80 => integer_contents(maker.rng.pick(&numbers)),
         0x03 => flag_contents(maker.flag_word()),
-        0x04 => maker.rng.pick(&[vec![], vec![1], vec![1, 2], vec![3; 64], vec![3; 65], vec![9; 255], vec![9; 256]]),
-        0x0C => text::at_the_bound(maker.rng),
+        0x04 | 0x51 => {
+            maker.rng.pick(&[vec![], vec![1], vec![1, 2], vec![3; 64], vec![3; 65], vec![9; 255], vec![9; 256]])
+        }
+        0x4F => maker.rng.pick(&[vec![], OURS[..4].to_vec(), OURS.to_vec(), vec![7; 16], vec![7; 17]]),
+        0x0C | 0x50 => text::at_the_bound(maker.rng),
         _ => return resize(maker, node),
     };
     node.body = Body::Bytes(contents);
@@ -149,7 +158,7 @@ fn bad_value(maker: &mut Maker, tag: u8) -> Vec<u8> {
         (0x03, 0 | 1) => maker.bad_bits(),
         (0x03, _) => maker.trailing_bits(),
         (0x05, _) => maker.bad_null(),
-        (0x0C, _) | (0x80, 2) => maker.bad_text(),
+        (0x0C | 0x50, _) | (0x80, 2) => maker.bad_text(),
         _ => maker.bad_time(),
     }
 }

@@ -91,8 +91,13 @@ impl<'a> Reader<'a> {
     /// The next element, sealed and kept whole.
     pub fn next_sealed(&mut self, inside: &mut Inside, kind: u16) -> Result<(), Refusal> {
         let next = inside.any()?;
-        sealed::nesting(self.dump, next, 1)?;
-        let bytes = next.whole(self.dump);
+        self.sealed(next, kind)
+    }
+
+    /// An element whose tag and length are read already, sealed and kept whole.
+    pub fn sealed(&mut self, it: Element, kind: u16) -> Result<(), Refusal> {
+        sealed::nesting(self.dump, it, 1)?;
+        let bytes = it.whole(self.dump);
         self.record(kind, bytes);
         Ok(())
     }

@@ -1,4 +1,5 @@
-//! The records of a dump: 0001 (CIAInfo), 0002 (EF.OD), then records 0003 and 0004 (path length, path, directory file).
+//! The records of a dump: 0005 (EF.DIR), which may lack, 0001 (CIAInfo), 0002 (EF.OD), then records 0003 and 0004 (path
+//! length, path, directory file).
 
 use super::linear;
 use crate::refusal::{Refusal, FRAME};
@@ -6,8 +7,8 @@ use crate::refusal::{Refusal, FRAME};
 /// "A file is at most 16,383 bytes."
 const LARGEST_FILE: usize = 16_383;
 
-/// A file of the dump: the place of its record, its kind, its path (empty for CIAInfo and EF.OD), where it starts and
-/// ends.
+/// A file of the dump: the place of its record, its kind, its path (empty for EF.DIR, CIAInfo and EF.OD), where it
+/// starts and ends.
 #[derive(Clone, Copy, Debug)]
 pub struct File<'a> {
     pub record: usize,
@@ -18,6 +19,8 @@ pub struct File<'a> {
 }
 
 pub struct Frames<'a> {
+    /// EF.DIR, if the dump has it.
+    pub templates: Option<File<'a>>,
     pub info: File<'a>,
     pub directory: File<'a>,
     pub files: Vec<File<'a>>,
@@ -25,7 +28,12 @@ pub struct Frames<'a> {
 
 /// Checks all frames, the first bad record being the refusal.
 pub fn frames(dump: &[u8]) -> Result<Frames<'_>, Refusal> {
-    let info = file(dump, 0, &[1])?;
+    let first = file(dump, 0, &[5, 1])?;
+    // "a dump record 0005, allowed once, before 0001"
+    let (templates, info) = match first.kind {
+        5 => (Some(first), file(dump, first.end, &[1])?),
+        _ => (None, first),
+    };
     let directory = file(dump, info.end, &[2])?;
     let mut files = Vec::new();
     let mut at = directory.end;
@@ -34,7 +42,7 @@ pub fn frames(dump: &[u8]) -> Result<Frames<'_>, Refusal> {
         at = next.end;
         files.push(next);
     }
-    Ok(Frames { info, directory, files })
+    Ok(Frames { templates, info, directory, files })
 }
 
 /// The record at `at`, which has to be of one of these kinds.

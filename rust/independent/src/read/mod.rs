@@ -14,12 +14,14 @@ pub mod linear;
 mod object;
 mod path;
 mod sealed;
+pub mod templates;
 mod type_attributes;
 pub mod values;
 
 use crate::refusal::{Refusal, PATHS, SIZE, TWICE};
 use directory::PathEntry;
 use frames::{frames, File};
+use std::mem;
 
 /// "Dump, at most 32,768 bytes (house)"
 const LARGEST_DUMP: usize = 32_768;
@@ -41,12 +43,17 @@ impl<'a> Reader<'a> {
 }
 
 /// "Order: 1; all frames; CIAInfo; EF.OD; 12; files in turn; 13"; 14 is the caller's, who knows the room.
+/// "EF.DIR is read before CIAInfo", and its book records "come after all others".
 pub fn read(dump: &[u8]) -> Result<Vec<u8>, Refusal> {
     if dump.len() > LARGEST_DUMP {
         return Err((SIZE, 0));
     }
     let frames = frames(dump)?;
     let mut reader = Reader::new(dump);
+    if let Some(file) = frames.templates {
+        reader.templates(file)?;
+    }
+    let last = mem::take(&mut reader.book);
     reader.info(frames.info)?;
     let entries = reader.directory(frames.directory)?;
     repeated_path(&entries)?;
@@ -55,6 +62,7 @@ pub fn read(dump: &[u8]) -> Result<Vec<u8>, Refusal> {
         reader.file(entry.tag, *file)?;
     }
     repeated_own(&reader.own)?;
+    reader.book.extend(last);
     Ok(reader.book)
 }
 

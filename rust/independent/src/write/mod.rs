@@ -7,6 +7,7 @@ mod condition;
 pub mod element;
 mod object;
 mod records;
+mod templates;
 
 use crate::book;
 use crate::read::read;
@@ -27,13 +28,19 @@ fn compose(book: &[u8]) -> Option<Vec<u8>> {
     let mut records = Records::of(book)?;
     let info = info(&mut records)?;
     let (directory, paths) = directory(&mut records)?;
-    let mut dump = Vec::new();
-    frame(&mut dump, 1, &info)?;
-    frame(&mut dump, 2, &directory)?;
+    let mut behind = Vec::new();
+    frame(&mut behind, 1, &info)?;
+    frame(&mut behind, 2, &directory)?;
     for (tag, path) in paths {
         let (kind, file) = directory_file(&mut records, tag)?;
-        frame(&mut dump, kind, &[&[path.len() as u8], path, &file].concat())?;
+        frame(&mut behind, kind, &[&[path.len() as u8], path, &file].concat())?;
     }
+    // EF.DIR's records are the last of the book, and the dump begins with it
+    let mut dump = Vec::new();
+    if records.take(0x0200).is_some() {
+        frame(&mut dump, 5, &templates::templates(&mut records)?)?;
+    }
+    dump.extend(behind);
     if records.done() {
         Some(dump)
     } else {

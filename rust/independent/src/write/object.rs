@@ -5,7 +5,7 @@ use super::element::{boolean, element, flags, integer, octets};
 use super::records::Records;
 
 /// Puts the next record, if it is of this kind, behind `out` in the form that `form` gives it.
-fn optional(out: &mut Vec<u8>, records: &mut Records, kind: u16, tag: u8, form: fn(u8, &[u8]) -> Vec<u8>) {
+pub fn optional(out: &mut Vec<u8>, records: &mut Records, kind: u16, tag: u8, form: fn(u8, &[u8]) -> Vec<u8>) {
     if let Some(payload) = records.take(kind) {
         out.extend(form(tag, payload));
     }
@@ -25,7 +25,8 @@ fn optional_number(
     Some(())
 }
 
-fn rest(out: &mut Vec<u8>, records: &mut Records, kind: u16) {
+/// Puts the next record, if it is of this kind, behind `out` as it stands.
+pub fn rest(out: &mut Vec<u8>, records: &mut Records, kind: u16) {
     out.extend(records.take(kind).unwrap_or_default());
 }
 
@@ -146,8 +147,13 @@ fn password(records: &mut Records) -> Option<Vec<u8>> {
 }
 
 fn path(records: &mut Records) -> Option<Vec<u8>> {
-    let mut inside = octets(0x04, records.take(0x0180)?);
-    optional_number(&mut inside, records, 0x0181, 0x02, integer)?;
-    optional_number(&mut inside, records, 0x0182, 0x80, integer)?;
-    Some(element(0x30, &inside))
+    path_of_kinds(records, 0x30, 0x0180)
+}
+
+/// A Path with this tag from a record of this kind and the next two.
+pub fn path_of_kinds(records: &mut Records, tag: u8, kind: u16) -> Option<Vec<u8>> {
+    let mut inside = octets(0x04, records.take(kind)?);
+    optional_number(&mut inside, records, kind + 1, 0x02, integer)?;
+    optional_number(&mut inside, records, kind + 2, 0x80, integer)?;
+    Some(element(tag, &inside))
 }

@@ -21,6 +21,14 @@ pub fn hex(text: &str) -> Vec<u8> {
     digits.chunks(2).map(|pair| (pair[0] * 16 + pair[1]) as u8).collect()
 }
 
+/// The shared case of document 01: 105 bytes.
+pub fn shared() -> Vec<u8> {
+    hex("0A000100 3006020101030100
+         12000200 A006300404024401 A806300404024404
+         23000300024401 301C 3003040101 30070401010302 0520 A10C300A300404024B0102020800
+         22000300024404 301B 3003040102 3003040101 A10F300D030203080A0101020104020108")
+}
+
 /// One record of a dump or a book.
 pub fn record(kind: u16, payload: &[u8]) -> Vec<u8> {
     let mut out = ((payload.len() + 2) as u16).to_le_bytes().to_vec();
@@ -62,6 +70,11 @@ pub fn inline(entry: u8, objects: &[Vec<u8>]) -> Vec<u8> {
 pub fn filed(entry: u8, file: &[u8]) -> Vec<u8> {
     let od = tlv(entry, &[hex("300404024401")]);
     [with_od(&od), record(3, &[hex("024401"), file.to_vec()].concat())].concat()
+}
+
+/// An EF.DIR, whose file starts at 4, that CIAInfo and an empty EF.OD: 16 bytes behind the file.
+pub fn with_dir(file: &[u8]) -> Vec<u8> {
+    [record(5, file), with_od(&[])].concat()
 }
 
 /// One record of a record file.

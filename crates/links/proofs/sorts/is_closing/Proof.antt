@@ -1,4 +1,4 @@
-use Rattle.links.proofs.SortLaws.{closing-inner, closing-opened, closing-linear, closing-not}
+use Rattle.links.proofs.SortLaws.{closing-inner, closing-opened, closing-linear, closing-other}
 use Rattle.links.proofs.sorts.is_closing.Statement.{statement}
 use Rattle.links.proofs.sorts.is_closing.Tie as tie
 
@@ -8,4 +8,4 @@ is-closing-spec =
     (λ c. search closing-inner)  -- returns
     (λ c. search closing-opened)  -- returns-2
     (λ c. search closing-linear)  -- returns-3
-    (λ c. search closing-not))  -- returns-4
+    (λ c. search closing-other))  -- returns-4

@@ -1,5 +1,6 @@
-use Rattle.reader.proofs.FrameLaws.{inner-low, inner-mid, inner-high}
-use Rattle.reader.proofs.StageLaws.{into-long, into-first, into-second, into-chain, into-parts, into-framing}
+use Rattle.reader.proofs.StageLaws.{into-long, into-broken, into-behind, into-plain}
+use native.Mathlib.Omega.{arith}
+use denote.Ref.{now}
 use borrow.Author.Needs.{needs}
 use Rattle.reader.proofs.dump.read_into.Statement.{statement}
 use Rattle.reader.proofs.dump.read_into.Tie as tie
@@ -8,18 +9,14 @@ pub read-into-spec : {M : Type 1} → statement M
 read-into-spec =
     tie.close (tie.spec
     (λ c. search (into-long, needs))  -- returns
+    (λ c κs. search needs)  -- has-dir-requires
     (λ c κs. search needs)  -- frame-requires
     (λ c. search needs)  -- enum-known-f
-    (λ c. search needs)  -- enum-known-from
-    (λ c κs. search (inner-high, needs))  -- frame-requires-2
-    (λ c. search needs)  -- enum-known-f-2
-    (λ c. search needs)  -- enum-known-start
-    (λ c κs. search (inner-high, needs))  -- frames-requires
-    (λ c. search needs)  -- enum-known-f-3
-    (λ c. search needs)  -- enum-told
-    (λ c κs. (search (into-framing, needs), inner-low (c .before .before .before .before .before .before .before .before .before .before .before .frame .ensures .1) (c .before .before .before .before .before .before .before .before .before .from .given .1), search (inner-mid, needs), search (inner-low, needs)))  -- read-parts-requires
-    (λ c. search (into-first, needs))  -- returns-2
-    (λ c. search (into-second, needs))  -- returns-3
-    (λ c. search (into-chain, needs))  -- returns-4
+    (λ c. search (into-broken, needs))  -- returns-2
+    (λ c. search needs)  -- enum-known-a
+    (λ c κs. (search (into-behind (now (c .before .before .before .before .before .before .before .before .before .before .args .s)) (λ i. omega (arith, c .before .before .before .before .before .before .before .before .before .shared-slice-known .given i)), needs), search needs))  -- read-behind-requires
     (λ c. search needs)  -- same-length
-    (λ c. search (into-parts, needs)))  -- returns-5
+    (λ c. search needs)  -- returns-3
+    (λ c κs. search needs)  -- read-plain-requires
+    (λ c. search needs)  -- same-length-2
+    (λ c. search (into-plain, needs)))  -- returns-4

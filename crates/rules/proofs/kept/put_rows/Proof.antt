@@ -1,4 +1,4 @@
-use Rattle.rules.proofs.KeptLaws.{Keeping, keeping-start, keeping-inside, keeping-low, keeping-next, keeping-all, keeping-few}
+use Rattle.rules.proofs.KeptLaws.{Keeping, keeping-start, keeping-inside, keeping-low, keeping-next, keeping-all}
 use Prim.Native.Nat.{_-_}
 use borrow.Author.Needs.{needs}
 use Rattle.rules.proofs.kept.put_rows.Statement.{statement}
@@ -23,4 +23,4 @@ put-rows-spec =
     (λ c. search needs)  -- loop-less
     (λ c. search (keeping-next, needs))  -- loop-again
     (λ c. search needs)  -- same-length
-    (λ c. search (keeping-all, keeping-few, needs)))  -- returns
+    (λ c. search (keeping-all, needs)))  -- returns

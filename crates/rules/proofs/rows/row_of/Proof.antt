@@ -5,7 +5,7 @@ use native.Mathlib.Omega.{arith}
 use lib.ListN.{length, getD}
 use borrow.Author.Needs.{needs}
 use Rattle.rules.specs.declared.table.Sequence.{Sequence}
-use Rattle.rules.specs.declared.table.Sequence.the-variants.{Info, Common, Rule, Key, CertificateAttributes, Authentication, PrivateKeyAttributes, PasswordAttributes, Path}
+use Rattle.rules.specs.declared.table.Sequence.the-variants.{Info, Common, Rule, Key, CertificateAttributes, Authentication, PrivateKeyAttributes, PasswordAttributes, Path, Template, Discretionary, OdfPath, InfoPath}
 use Rattle.rules.specs.declared.table.Row.{Row}
 use Rattle.rules.specs.declared.rows.Line.{Line}
 use Rattle.rules.specs.Parts.{row}
@@ -81,4 +81,24 @@ row-of-spec =
     (λ c. search (fits, needs))
     (λ c. search (inside Path, needs))
     (λ c κs. search needs)
-    (λ c. row-is Path (c .before .before .before .before .args .q) (c .before .before .before .before .args .i) (search needs) (c .row9 .ensures)))
+    (λ c. row-is Path (c .before .before .before .before .args .q) (c .before .before .before .before .args .i) (search needs) (c .row9 .ensures))
+    (λ c. search needs)
+    (λ c. search (fits, needs))
+    (λ c. search (inside Template, needs))
+    (λ c κs. search needs)
+    (λ c. row-is Template (c .before .before .before .before .args .q) (c .before .before .before .before .args .i) (search needs) (c .row10 .ensures))
+    (λ c. search needs)
+    (λ c. search (fits, needs))
+    (λ c. search (inside Discretionary, needs))
+    (λ c κs. search needs)
+    (λ c. row-is Discretionary (c .before .before .before .before .args .q) (c .before .before .before .before .args .i) (search needs) (c .row11 .ensures))
+    (λ c. search needs)
+    (λ c. search (fits, needs))
+    (λ c. search (inside OdfPath, needs))
+    (λ c κs. search needs)
+    (λ c. row-is OdfPath (c .before .before .before .before .args .q) (c .before .before .before .before .args .i) (search needs) (c .row12 .ensures))
+    (λ c. search needs)
+    (λ c. search (fits, needs))
+    (λ c. search (inside InfoPath, needs))
+    (λ c κs. search needs)
+    (λ c. row-is InfoPath (c .before .before .before .before .args .q) (c .before .before .before .before .args .i) (search needs) (c .row13 .ensures)))

@@ -1,6 +1,6 @@
 use Rattle.rules.specs.Tables.{ciaRows}
 use Rattle.rules.specs.Render.{_next_, within, rRows, rKeep, rFill}
-use Rattle.writer.proofs.MadeLaws.{made-ended, within-made, closed-next, then-long, then-took}
+use Rattle.makers.specs.MadeLaws.{made-ended, within-made, closed-next, then-long, then-took}
 use borrow.Author.Needs.{needs}
 use Rattle.writer.proofs.make_entry.make_cia.Statement.{statement}
 use Rattle.writer.proofs.make_entry.make_cia.Tie as tie

@@ -1,5 +1,5 @@
 use Rattle.rules.specs.Render.{rObjects, rFill}
-use Rattle.writer.proofs.MadeLaws.{then-long, then-took, made-high, made-room, made-small}
+use Rattle.makers.specs.MadeLaws.{then-long, then-took, made-high, made-room, made-small}
 use Rattle.writer.proofs.MakeEntryLaws.{directory-made, onward-none, onward-both}
 use borrow.Author.Needs.{needs}
 use Rattle.writer.proofs.make_entry.make_directory.Statement.{statement}

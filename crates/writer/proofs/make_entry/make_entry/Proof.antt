@@ -1,4 +1,4 @@
-use Rattle.writer.proofs.MadeLaws.{made-ended, within-made, wrap-grows, closed-onward}
+use Rattle.makers.specs.MadeLaws.{made-ended, within-made, wrap-grows, closed-onward}
 use Rattle.writer.proofs.MakeEntryLaws.{entry-known, entry-kept, onward-behind}
 use borrow.Author.Needs.{needs}
 use Rattle.writer.proofs.make_entry.make_entry.Statement.{statement}

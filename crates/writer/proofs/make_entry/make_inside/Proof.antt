@@ -1,4 +1,4 @@
-use Rattle.writer.proofs.MadeLaws.{made-ended, within-made, onward-closed}
+use Rattle.makers.specs.MadeLaws.{made-ended, within-made, onward-closed}
 use Rattle.writer.proofs.MakeEntryLaws.{inside-path, inside-objects}
 use borrow.Author.Needs.{needs}
 use Rattle.writer.proofs.make_entry.make_inside.Statement.{statement}

@@ -1,4 +1,4 @@
-use Rattle.writer.proofs.MadeLaws.{then-long, then-took, made-high, made-room, makes-same}
+use Rattle.makers.specs.MadeLaws.{then-long, then-took, made-high, made-room, makes-same}
 use mathlib.Core.List.{[], _∷_}
 use Rattle.rules.specs.Render.{rAll, rEntry, rFill, rOd}
 use borrow.Author.Needs.{needs}

@@ -1,6 +1,6 @@
 use mathlib.Core.Path.{refl}
 use Rattle.elements.specs.Put.{le16}
-use Rattle.writer.proofs.MadeLaws.{closed-none, closed-short, front-grows, closed-front}
+use Rattle.makers.specs.MadeLaws.{closed-none, closed-short, front-grows, closed-front}
 use borrow.Author.Needs.{needs}
 use Rattle.writer.proofs.make_linear.lengthed.Statement.{statement}
 use Rattle.writer.proofs.make_linear.lengthed.Tie as tie

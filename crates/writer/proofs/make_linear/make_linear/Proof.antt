@@ -1,6 +1,6 @@
 use mathlib.Core.List.{[], _∷_}
 use Rattle.rules.specs.Render.{rAll, rRecordIn, rLinear}
-use Rattle.writer.proofs.MadeLaws.{from-none, from-some}
+use Rattle.makers.specs.MadeLaws.{from-none, from-some}
 use borrow.Author.Needs.{needs}
 use Rattle.writer.proofs.make_linear.make_linear.Statement.{statement}
 use Rattle.writer.proofs.make_linear.make_linear.Tie as tie

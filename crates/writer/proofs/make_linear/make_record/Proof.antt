@@ -1,6 +1,6 @@
 use mathlib.Core.Path.{refl}
 use Rattle.elements.specs.Put.{le16}
-use Rattle.writer.proofs.MadeLaws.{made-ended, front-grows, closed-onward}
+use Rattle.makers.specs.MadeLaws.{made-ended, front-grows, closed-onward}
 use Rattle.writer.proofs.MakeLinearLaws.{record-made}
 use borrow.Author.Needs.{needs}
 use Rattle.writer.proofs.make_linear.make_record.Statement.{statement}

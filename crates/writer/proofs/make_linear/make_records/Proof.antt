@@ -1,14 +1,15 @@
+use mathlib.Core.List.{[], _∷_}
 use lib.ListN.{length}
 use Rattle.rules.specs.Render.{rRecordIn}
 use Rattle.rules.specs.Book.{recordsFrom}
-use Rattle.writer.proofs.MadeLaws.{next-there}
-use Rattle.writer.proofs.ManyLaws.{Repeating, repeating-start, repeating-all, repeating-long, repeating-next, onward-less}
+use Rattle.makers.specs.MadeLaws.{next-there, next-one}
+use Rattle.makers.specs.ManyLaws.{Repeating, repeating-start, repeating-all, repeating-long, repeating-next, onward-less}
 use borrow.Author.Needs.{needs}
 use Rattle.writer.proofs.make_linear.make_records.Statement.{statement}
 use Rattle.writer.proofs.make_linear.make_records.Tie as tie
 
 abbrev Inv-loop : tie.InvT-loop
-Inv-loop b i out₀ o j₀ p₀ out j p = Repeating b 0x011a rRecordIn out₀ out i o j p
+Inv-loop b i out₀ o j₀ p₀ out j p = Repeating b (0x011a ∷ []) rRecordIn out₀ out i o j p
 
 abbrev μ-loop : tie.MeasureT-loop
 μ-loop b i out₀ o j₀ p₀ out j p = length (recordsFrom b j)
@@ -23,9 +24,9 @@ make-records-spec =
     (λ c κs. search (next-there, needs))  -- make-record-requires
     (λ c. search needs)  -- enum-told
     (λ c. search needs)  -- same-length
-    (λ c. search (repeating-long, needs))  -- returns
+    (λ c. search (repeating-long, next-one, needs))  -- returns
     (λ c. search needs)  -- enum-known-n
     (λ c. search (onward-less, needs))  -- loop-less
-    (λ c. search (repeating-next, onward-less, needs))  -- loop-again
+    (λ c. search (repeating-next, next-one, onward-less, needs))  -- loop-again
     (λ c. search needs)  -- same-length-2
-    (λ c. search (repeating-all, needs)))  -- returns-2
+    (λ c. search (repeating-all, next-one, needs)))  -- returns-2

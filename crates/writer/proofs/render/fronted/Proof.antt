@@ -1,4 +1,4 @@
-use Rattle.writer.proofs.MadeLaws.{closed-none, closed-short}
+use Rattle.makers.specs.MadeLaws.{closed-none, closed-short}
 use Rattle.writer.proofs.RenderLaws.{framing-grows, fronted}
 use borrow.Author.Needs.{needs}
 use Rattle.writer.proofs.render.fronted.Statement.{statement}

@@ -1,5 +1,5 @@
 use Rattle.rules.specs.Render.{rDirectory, rLinear}
-use Rattle.writer.proofs.MadeLaws.{made-ended, next-there, either-yes, either-no}
+use Rattle.makers.specs.MadeLaws.{made-ended, next-there, either-yes, either-no}
 use Rattle.writer.proofs.RenderLaws.{file-short, named-made, file-made}
 use borrow.Author.Needs.{needs}
 use Rattle.writer.proofs.render.make_file.Statement.{statement}

@@ -1,4 +1,4 @@
-use Rattle.writer.proofs.MadeLaws.{made-ended, closed-next, closed-steps}
+use Rattle.makers.specs.MadeLaws.{made-ended, closed-next, closed-steps}
 use Rattle.writer.proofs.RenderLaws.{framing-made, two-long, two-took}
 use borrow.Author.Needs.{needs}
 use Rattle.writer.proofs.render.make_rest.Statement.{statement}

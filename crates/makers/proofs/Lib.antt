@@ -1,0 +1,5 @@
+pub mod LeafLaws
+pub mod MakeConditionLaws
+pub mod MakeCommonLaws
+pub mod MakeTypeLaws
+pub mod MakeObjectLaws

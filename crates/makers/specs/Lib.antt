@@ -1,0 +1,4 @@
+pub mod Making
+pub mod Composed
+pub mod MadeLaws
+pub mod ManyLaws

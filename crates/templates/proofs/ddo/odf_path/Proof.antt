@@ -1,0 +1,17 @@
+use mathlib.Core.Path.{refl}
+use borrow.Author.Needs.{needs}
+use Rattle.objects.specs.DidLaws.{did-high, did-small, did-fails, did-then}
+use Rattle.templates.proofs.ddo.odf_path.Statement.{statement}
+use Rattle.templates.proofs.ddo.odf_path.Tie as tie
+
+pub odf-path-spec : {M : Type 1} → statement M
+odf-path-spec =
+    tie.close (tie.spec
+    (λ c κs. search needs)
+    (λ c. search needs)
+    (λ c. search needs)
+    (λ c κs. search (did-high, did-small, did-fails, did-then, refl, needs))
+    (λ c. search needs)
+    (λ c. search (did-high, did-small, did-fails, did-then, needs))
+    (λ c. search needs)
+    (λ c. search (did-high, did-small, did-fails, did-then, needs)))
