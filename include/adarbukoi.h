@@ -123,6 +123,30 @@ enum {
     ADARBUKOI_OTHER_TYPE = 0x01A0            /* the element */
 };
 
+/* Kinds of EF.DIR's records, which are the last of a book, where the dump has one. They are no object's, so adarbukoi_field
+ * answers NONE for them; a caller finds them by going over the book's records. */
+enum {
+    ADARBUKOI_DIR = 0x0200,                  /* nothing: EF.DIR is there */
+    ADARBUKOI_TEMPLATE = 0x0201,             /* one byte: an application template begins; 01 it is ours, 00 it is not */
+    ADARBUKOI_TEMPLATE_ID = 0x0202,          /* bytes: its application identifier */
+    ADARBUKOI_TEMPLATE_LABEL = 0x0203,       /* text */
+    ADARBUKOI_TEMPLATE_PATH = 0x0204,        /* bytes */
+    ADARBUKOI_DISCRETIONARY = 0x0205,        /* nothing: it has a 73; what is inside follows */
+    ADARBUKOI_PROVIDER_ID = 0x0206,          /* the element */
+    ADARBUKOI_ODF_PATH = 0x0207,             /* bytes */
+    ADARBUKOI_ODF_PATH_INDEX = 0x0208,       /* number */
+    ADARBUKOI_ODF_PATH_LENGTH = 0x0209,      /* number */
+    ADARBUKOI_INFO_PATH = 0x020A,            /* bytes */
+    ADARBUKOI_INFO_PATH_INDEX = 0x020B,      /* number */
+    ADARBUKOI_INFO_PATH_LENGTH = 0x020C,     /* number */
+    ADARBUKOI_DISCRETIONARY_AID = 0x020D,    /* bytes */
+    ADARBUKOI_DATA_OBJECTS = 0x020E,         /* the element */
+    ADARBUKOI_DISCRETIONARY_REST = 0x020F,   /* elements */
+    ADARBUKOI_TEMPLATE_REST = 0x0210,        /* elements */
+    ADARBUKOI_DIR_ELEMENT = 0x0211,          /* the element, which is no template */
+    ADARBUKOI_DIR_FILL = 0x0212              /* fill byte, 2-byte count */
+};
+
 /* The answering object of a link that nothing answers. */
 #define ADARBUKOI_UNANSWERED UINT32_C(4294967295)
 

@@ -89,7 +89,7 @@ pub record Card : Type 0 where
   pub main : od .Of
   pub dirs : files (namesOf main) .Of
 
--- "one record of kind 0001 (CIAInfo), one 0002 (EF.OD), then records 0003" and 0004
+-- "one record of kind 0001 (CIAInfo), one 0002 (EF.OD), then records 0003" and 0004; 0005 before them
 abbrev pub dumpOf : Card → List ℕ
 dumpOf c = efDir .bytes (c .dir) ++ (recordBytes 1 (cia .bytes (c .info)) ++ (recordBytes 2 (od .bytes (c .main)) ++ files (namesOf (c .main)) .bytes (c .dirs)))
 

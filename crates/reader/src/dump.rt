@@ -168,7 +168,7 @@ fn has_dir(s: &[u8]) -> bool
     of_two(byte_at(s, 0, s.len(), 2), byte_at(s, 0, s.len(), 3)) == 5
 }
 
-// A dump into a book: "1; all frames; CIAInfo; EF.OD; 12; files in turn; 13".
+// A dump into a book: "1; all frames; CIAInfo; EF.OD; 12; files in turn; 13", and before CIAInfo EF.DIR.
 pub fn read_into(s: &[u8], out: &mut [u8]) -> Outcome
     requires { ⌜ 131072 ≤ length (now out) ⌝ }
     ensures { λ r. ⌜ Reads [] (now (out .entry)) (now (out .exit)) 0 (readDump (now (s .entry))) r ⌝ }

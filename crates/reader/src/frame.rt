@@ -67,7 +67,7 @@ fn file_in(at: usize, kind: usize, n: usize, start: usize, stop: usize) -> Frame
     Framed::File(kind, start + 1, start + n, stop)
 }
 
-// CIAInfo's or EF.OD's file.
+// EF.DIR's, CIAInfo's or EF.OD's file.
 pub fn frame(s: &[u8], kind: usize, at: usize) -> Framed
     requires { ⌜ (at ≤ length (now s)) × (length (now s) ≤ 32768) ⌝ }
     ensures { λ r. ⌜ (frame (now (s .entry)) kind at ≡ framedAs at r) × Inner (now (s .entry)) at r ⌝ }

@@ -1,4 +1,4 @@
--- What is checked of a path and of a password, and what it says of them.
+-- What is checked of a path, of a password and of a template of ours, and what it says of them.
 use Prim.Native.Nat.{ℕ, _+_, _/_, _%_}
 use mathlib.Core.List.{List, [], _∷_}
 use mathlib.Core.Bool.{Bool, true, false, _&&_}

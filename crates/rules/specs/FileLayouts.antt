@@ -1,4 +1,4 @@
--- EF.OD, a transparent directory file and a record of a record file, each said once.
+-- EF.OD, a transparent directory file, a record of a record file and EF.DIR, each said once.
 use Prim.Native.Nat.{ℕ}
 use mathlib.Core.List.{List, [], _∷_, _++_}
 use mathlib.Core.Bool.{Bool, true, false, _||_, _&&_, not}

@@ -1,4 +1,4 @@
--- "House records" and "Refusals and their places" of document 01, record files of document 02: files, their frames, and the whole dump.
+-- "House records" and "Refusals and their places" of document 01, record files and EF.DIR of document 02: files, their frames, and the whole dump.
 use Prim.Native.Nat.{ℕ, zero, suc, _+_, _-_, _*_}
 use mathlib.Core.List.{List, [], _∷_, _++_, map}
 use mathlib.Core.Bool.{Bool, true, false, _||_, _&&_}

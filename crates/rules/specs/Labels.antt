@@ -14,9 +14,11 @@ use Rattle.elements.specs.ValueLaws.{value-complete}
 use Rattle.elements.specs.Values.{value}
 use Rattle.rules.specs.declared.table.Row.{Row}
 use Rattle.rules.specs.Parts.{sized, judged, payload}
-use Rattle.rules.specs.Tables.{ciaRows, commonRows, ruleRows, keyRows, certificateRows, authenticationRows, privateRows, passwordRows, pathRows}
+use Rattle.rules.specs.declared.table.Sequence.{Sequence}
+use Rattle.rules.specs.declared.table.Sequence.the-variants.{Info, Common, Rule, Key, CertificateAttributes, Authentication, PrivateKeyAttributes, PasswordAttributes, Path, Template, Discretionary, OdfPath, InfoPath}
+use Rattle.rules.specs.Tables.{rowsOf}
 use Rattle.rules.specs.FieldLaws.{small-told}
-use Rattle.rules.specs.Grammar.{contentsOf, Fine}
+use Rattle.rules.specs.Grammar.{flat, contentsOf, Fine}
 
 -- the rows of text, by kind and bounds
 abbrev ofText : Form → Row → List (ℕ × ℕ × ℕ)
@@ -32,8 +34,12 @@ abbrev texts : List Row → List (ℕ × ℕ × ℕ)
 texts [] = []
 texts (r ∷ rs) = ofText (r .form) r ++ texts rs
 
--- "for 0103, 0104 and 0121": these are all the texts of all the tables
-pub texts-255 : texts (ciaRows ++ commonRows ++ ruleRows ++ keyRows ++ certificateRows ++ authenticationRows ++ privateRows ++ passwordRows ++ pathRows) ≡ (0x0103, 0, 255) ∷ (0x0104, 0, 255) ∷ (0x0121, 0, 255) ∷ []
+-- every sequence with a table
+abbrev all : List Sequence
+all = Info ∷ Common ∷ Rule ∷ Key ∷ CertificateAttributes ∷ Authentication ∷ PrivateKeyAttributes ∷ PasswordAttributes ∷ Path ∷ Template ∷ Discretionary ∷ OdfPath ∷ InfoPath ∷ []
+
+-- "for 0103, 0104 and 0121", and for EF.DIR's label, 0203: these are all the texts of all the tables
+pub texts-255 : texts (flat rowsOf all) ≡ (0x0103, 0, 255) ∷ (0x0104, 0, 255) ∷ (0x0121, 0, 255) ∷ (0x0203, 0, 255) ∷ []
 texts-255 = refl
 
 -- a text is judged by how many characters it has, whatever bytes they take

@@ -1,4 +1,4 @@
--- What a template begins with, and what stands in front of its 73.
+-- What a template begins with and comes to, EF.DIR's elements, and its file.
 use Prim.Native.Nat.{ℕ, suc, _+_, _-_, _*_, _≤_, _<_}
 use mathlib.Core.Path.{_≡_, refl, sym, _∙_}
 use mathlib.Core.Bool.{Bool, true, false, _||_, _&&_, not}
