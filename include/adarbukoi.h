@@ -92,7 +92,7 @@ enum {
                                                 6 verify, 7 verifyRecover, 8 derive, 9 nonRepudiation */
     ADARBUKOI_KEY_NATIVE = 0x0132,           /* one byte, 00; absent: native */
     ADARBUKOI_KEY_ACCESS_FLAGS = 0x0133,     /* number: 0 sensitive, 1 extractable, 2 alwaysSensitive, 3 neverExtractable, 4 cardGenerated */
-    ADARBUKOI_KEY_REFERENCE = 0x0134,        /* number */
+    ADARBUKOI_KEY_REFERENCE = 0x0134,        /* number, -128 to 255: a negative one in two's complement, so an int32_t */
     ADARBUKOI_KEY_START_DATE = 0x0135,       /* YYYYMMDDhhmmssZ */
     ADARBUKOI_KEY_END_DATE = 0x0136,         /* the same */
     ADARBUKOI_KEY_REST = 0x013F,             /* elements */

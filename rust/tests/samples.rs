@@ -6,6 +6,7 @@ const ANNEX_E2: &[u8] = include_bytes!("../../samples/annex-e2.dump");
 const RECORD_FILES: &[u8] = include_bytes!("../../samples/record-files.dump");
 const TWO_APPLICATIONS: &[u8] = include_bytes!("../../samples/two-applications.dump");
 const TWO_SCRIPTS: &[u8] = include_bytes!("../../samples/two-scripts.dump");
+const TWO_SLOTS: &[u8] = include_bytes!("../../samples/two-slots.dump");
 
 /// The book of a card: so long, written back to the dump, and with these links.
 fn book(dump: &[u8], length: usize, links: &[u32]) -> Vec<u8> {
@@ -43,6 +44,14 @@ fn two_scripts() {
     let label = std::str::from_utf8(field(&book, 2, 0x0121).unwrap()).unwrap();
     assert_eq!((label.len(), label.chars().count()), (317, 222));
     assert!(label.starts_with("Κωδικός PIN ") && label.ends_with(" unblocked with the PUK"));
+}
+
+/// Slot 0x81 as minus 127, and as 129.
+#[test]
+fn two_slots() {
+    let book = book(TWO_SLOTS, 343, &[1, 0, 88, 4, 3, 0, 93, 2, 1, 1, 160, 4, 3, 1, 165, 3]);
+    assert_eq!(field(&book, 0, 0x0134), Ok(&(-127i32).to_le_bytes()[..]));
+    assert_eq!(field(&book, 1, 0x0134), Ok(&129i32.to_le_bytes()[..]));
 }
 
 /// Its flags are 03 02 05 80 at 30; with 07 for 05 native, which is TRUE, is next, at 52.

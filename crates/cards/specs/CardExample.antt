@@ -3,6 +3,7 @@ use mathlib.Core.Path.{_≡_, refl}
 use mathlib.Core.List.{[], _∷_}
 use mathlib.Core.Logic.{inl, inr}
 use mathlib.Core.Option.{none, some}
+use lib.IntN.{pos}
 use lib.Count.{leadingZeros}
 use Rattle.elements.specs.Length.{shortest, tagBytes}
 use Rattle.elements.specs.Integer.{integerBytes, spread, spreadBy}
@@ -22,18 +23,18 @@ use Rattle.rules.specs.RecordFiles.{mixed, mixedBook}
 -- a private key: authId 01; iD 01, usage 4; path 4B01, modulus of 2,048 bits
 abbrev keyObject : entries.object 0xa0 .part .Of
 unfolding typeOf entries.object layouts.insides layouts.cia layouts.info
-keyObject = (0x30, ((((((none, (none, (some (0x01 ∷ []), (none, tt)))), none), []), ((0x01 ∷ [], (4, (none, (none, (none, (none, (none, tt))))))), [])), none), (((0x4b ∷ 0x01 ∷ [], (none, (none, tt))), (2048, tt)), [])))
+keyObject = (0x30, ((((((none, (none, (some (0x01 ∷ []), (none, tt)))), none), []), ((0x01 ∷ [], (4, (none, (none, (none, (none, (none, tt))))))), [])), none), (((0x4b ∷ 0x01 ∷ [], (none, (none, tt))), (pos 2048, tt)), [])))
 
 -- a password: authId 02; own authId 01; flags 16, type 1, lengths 4 and 8
 abbrev passwordObject : entries.object 0xa8 .part .Of
 unfolding typeOf entries.object layouts.insides layouts.cia layouts.info
-passwordObject = (0x30, ((((((none, (none, (some (0x02 ∷ []), (none, tt)))), none), []), ((some (0x01 ∷ []), (none, (none, tt))), [])), none), (((16, (1, (4, (8, (none, (none, (none, (none, tt)))))))), none), [])))
+passwordObject = (0x30, ((((((none, (none, (some (0x02 ∷ []), (none, tt)))), none), []), ((some (0x01 ∷ []), (none, (none, tt))), [])), none), (((16, (pos 1, (pos 4, (pos 8, (none, (none, (none, (none, tt)))))))), none), [])))
 
 unfoldable sharedCard : Card
 unfolding card.files entries.object typeOf layouts.insides layouts.cia layouts.info
 sharedCard = record {
   dir = none;
-  info = (((1, (none, (none, (none, (0, tt))))), []), none);
+  info = (((pos 1, (none, (none, (none, (0, tt))))), []), none);
   main = (inl (0xa0, inl (0x44 ∷ 0x01 ∷ [])) ∷ inl (0xa8, inl (0x44 ∷ 0x04 ∷ [])) ∷ [], none);
   dirs = (inl (keyObject ∷ [], none), (inl (passwordObject ∷ [], none), tt));
 }
@@ -56,7 +57,7 @@ unfoldable mixedCard : Card
 unfolding card.files entries.object typeOf layouts.insides layouts.cia layouts.info
 mixedCard = record {
   dir = none;
-  info = (((1, (none, (none, (none, (0, tt))))), []), none);
+  info = (((pos 1, (none, (none, (none, (0, tt))))), []), none);
   main = (inl (0xa7, inl (0x44 ∷ [])) ∷ inl (0xa8, inl (0x45 ∷ [])) ∷ [], none);
   dirs = (inr ((containerObject ∷ [], some (0xff, 2)) ∷ ([], none) ∷ ([], some (0x00, 2)) ∷ (containerObject ∷ [], none) ∷ []), (inl ([], some (0xff, 1)), tt));
 }
@@ -74,7 +75,7 @@ unfoldable labelledCard : Card
 unfolding card.files entries.object typeOf layouts.insides layouts.cia layouts.info
 labelledCard = record {
   dir = none;
-  info = (((1, (none, (some (0x391 ∷ 0x41 ∷ []), (some (0x1d11e ∷ []), (0, tt))))), []), none);
+  info = (((pos 1, (none, (some (0x391 ∷ 0x41 ∷ []), (some (0x1d11e ∷ []), (0, tt))))), []), none);
   main = ([], none);
   dirs = tt;
 }

@@ -3,6 +3,7 @@ use Prim.Native.Nat.{ℕ, suc, _+_, _-_, _/_, _%_, _^_, _≤_, _<_}
 use mathlib.Core.Path.{_≡_}
 use mathlib.Core.List.{List, [], _∷_, _++_}
 use mathlib.Core.Bool.{Bool, true, false}
+use lib.IntN.{ℤ, pos, negsuc, natAbs}
 use lib.ListN.{length, getD}
 use lib.Seq.{slice}
 use lib.Dec.{ltb}
@@ -61,13 +62,6 @@ unfoldable pub utf8s : List ℕ → List ℕ
 utf8s [] = []
 utf8s (u ∷ l) = utf8 u ++ utf8s l
 
--- c is the encoding of scalar values, m of them
-pub record Characters (c : List ℕ) (m : ℕ) : Type 0 where
-  pub scalars : List ℕ
-  pub each : Scalars scalars
-  pub bytes : c ≡ utf8s scalars
-  pub count : m ≡ least (length scalars) most
-
 -- two decimal digits
 unfoldable pub pair : ℕ → List ℕ
 pair n = (48 + n / 10) ∷ (48 + n % 10) ∷ []
@@ -88,19 +82,57 @@ pub record Moment (c : List ℕ) : Type 0 where
   pub second-to : second ≤ 59
   pub bytes : c ≡ pair (year / 100) ++ pair (year % 100) ++ pair month ++ pair day ++ pair hour ++ pair minute ++ pair second ++ (90 ∷ [])
 
--- c is the shortest two's complement of a number, of any size: there is no minus zero
-pub record Whole (c : List ℕ) (n : Bool) (m : ℕ) : Type 0 where
-  pub size : ℕ
-  pub signed : n ≡ true → 0 < size
-  pub bytes : c ≡ integerBytes n size
-  pub told : m ≡ least size most
+-- the values of a form: a text is its characters, octets are their bytes
+abbrev pub Worth : Form → Type 0
+Worth form.Boolean = ℕ
+Worth form.Integer = ℤ
+Worth form.Bits = ℕ
+Worth form.Null = Unit {0}
+Worth form.Text = List ℕ
+Worth form.Time = List ℕ
+Worth form.Octets = List ℕ
 
--- contents c are the encoding of the value of sign n and magnitude m
-abbrev pub Encodes : Form → List ℕ → Bool → ℕ → Type 0
-Encodes form.Boolean c n m = (n ≡ false) × (m < 2) × (c ≡ booleanBytes m)
-Encodes form.Integer c n m = Whole c n m
-Encodes form.Bits c n m = (n ≡ false) × (m < 2 ^ 32) × (c ≡ flagBytes m)
-Encodes form.Null c n m = (n ≡ false) × (m ≡ 0) × (c ≡ [])
-Encodes form.Text c n m = (n ≡ false) × Characters c m
-Encodes form.Time c n m = (n ≡ false) × (m ≡ 0) × Moment c
-Encodes form.Octets c n m = (n ≡ false) × (m ≡ least (length c) most)
+-- those that there are: 0 and 1, 32 bits, scalar values, a day of the calendar and a time of day
+abbrev pub Proper : (f : Form) → Worth f → Type 0
+Proper form.Boolean v = v < 2
+Proper form.Integer v = Unit {0}
+Proper form.Bits v = v < 2 ^ 32
+Proper form.Null v = Unit {0}
+Proper form.Text v = Scalars v
+Proper form.Time v = Moment v
+Proper form.Octets v = Unit {0}
+
+-- their contents: of a number the shortest two's complement
+abbrev pub contentsOf : (f : Form) → Worth f → List ℕ
+contentsOf form.Boolean v = booleanBytes v
+contentsOf form.Integer v = integerBytes v
+contentsOf form.Bits v = flagBytes v
+contentsOf form.Null v = []
+contentsOf form.Text v = utf8s v
+contentsOf form.Time v = v
+contentsOf form.Octets v = v
+
+-- what a form tells of a value, and bounds are on: a number itself, how many characters a text is, how many bytes octets are
+abbrev pub tells : (f : Form) → Worth f → ℤ
+tells form.Boolean v = pos v
+tells form.Integer v = v
+tells form.Bits v = pos v
+tells form.Null v = pos 0
+tells form.Text v = pos (length v)
+tells form.Time v = pos 0
+tells form.Octets v = pos (length v)
+
+-- by its sign and its magnitude, the largest for all above
+abbrev pub negative : ℤ → Bool
+negative (pos m) = false
+negative (negsuc w) = true
+
+abbrev pub ToldAs : ℤ → Bool → ℕ → Type 0
+ToldAs z n m = (n ≡ negative z) × (m ≡ least (natAbs z) most)
+
+-- contents c are the encoding of a value of which n and m are told
+pub record Encodes (f : Form) (c : List ℕ) (n : Bool) (m : ℕ) : Type 0 where
+  pub worth : Worth f
+  pub proper : Proper f worth
+  pub bytes : c ≡ contentsOf f worth
+  pub told : ToldAs (tells f worth) n m

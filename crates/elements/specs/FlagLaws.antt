@@ -17,6 +17,7 @@ use Rattle.elements.specs.declared.answer.Value.the-variants.{Of}
 use Rattle.elements.specs.Bits.{reversed, weigh, bitsOf, bits, width, flagRun, flagBytes}
 use Rattle.elements.specs.declared.answer.Form.the-variants as form
 use Rattle.elements.specs.Encodings.{Encodes}
+use Rattle.elements.specs.ToldLaws.{least-is}
 use Rattle.elements.specs.BitsLaws.{reversed-small}
 
 -- tests that are computed for every number below n
@@ -143,7 +144,8 @@ closed u x l h b c k =
     let q : e + u + 1 ≡ 8 * length (x ∷ l) = omega arith in
     let t : Top e (weigh (x ∷ l)) = weigh-top u x l h b c e q in
     let p : 2 ^ e ≤ 2 ^ 31 = low-pow e 31 (omega arith) in
-    (refl, omega (arith, t .to), sym (flags-are u (length (x ∷ l)) e (weigh (x ∷ l)) h q (omega arith) t ∙ ap (λ l. u ∷ l) (run-weigh (x ∷ l) b)))
+    let f : weigh (x ∷ l) < 2 ^ 32 = omega (arith, t .to) in
+    record { worth = weigh (x ∷ l); proper = f; bytes = sym (flags-are u (length (x ∷ l)) e (weigh (x ∷ l)) h q (omega arith) t ∙ ap (λ l. u ∷ l) (run-weigh (x ∷ l) b)); told = (refl, sym (least-is (weigh (x ∷ l)) f)) }
 
 -- "none set is 03 01 00"
 none-set : flagBytes 0 ≡ 0 ∷ []
@@ -156,7 +158,7 @@ last-at u x l = ap (λ i. getD (u ∷ x ∷ l) i 0) (let z : length (u ∷ x ∷
 bits-says : (c : List ℕ) → Bytes c → Says (Encodes form.Bits c) (bits c)
 unfolding bits bitsOf
 bits-says [] b = wrong
-bits-says (u ∷ []) b = by-test (ltb 7 u) (λ _. wrong) (λ _. by-test (eqb u 0) (λ t. says {n = false} {m = 0} (refl, omega arith, rw (eqb-true u 0 t) (sym none-set))) (λ _. wrong))
+bits-says (u ∷ []) b = by-test (ltb 7 u) (λ _. wrong) (λ _. by-test (eqb u 0) (λ t. says {n = false} {m = 0} (record { worth = 0; proper = omega arith; bytes = rw (eqb-true u 0 t) (sym none-set); told = (refl, refl) })) (λ _. wrong))
 bits-says (u ∷ x ∷ l) b =
     rw (ne-eqb (length (u ∷ x ∷ l)) 0 (omega arith), ne-eqb (length (u ∷ x ∷ l)) 1 (omega arith), last-at u x l)
     (by-test (ltb 7 u) (λ _. wrong) (λ s.

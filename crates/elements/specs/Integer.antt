@@ -1,7 +1,8 @@
--- "INTEGER and ENUMERATED are shortest; a negative one is 7": sign and magnitude, so that a negative one is out of every bound.
+-- "INTEGER and ENUMERATED are shortest"; "The integer reader should give a signed value": by sign and magnitude.
 use Prim.Native.Nat.{ℕ, zero, suc, _+_, _-_, _*_, _/_, _%_}
 use mathlib.Core.List.{List, [], _∷_, _++_}
 use mathlib.Core.Bool.{Bool, true, false}
+use lib.IntN.{ℤ, pos, negsuc, negℤ}
 use lib.ListN.{length, getD}
 use lib.Dec.{ltb, leb, eqb}
 use Rattle.elements.specs.Choice.{pick, choose}
@@ -15,6 +16,11 @@ most = 4294967295
 
 abbrev pub least : ℕ → ℕ → ℕ
 least m n = pick (ltb m n) m n
+
+-- the number of a sign and a magnitude
+abbrev pub signed : Bool → ℕ → ℤ
+signed false m = pos m
+signed true m = negℤ (pos m)
 
 -- in two's complement the bytes of -1 - w are those of w, each complemented
 abbrev pub digit : Bool → ℕ → ℕ
@@ -63,5 +69,7 @@ spreadBy (suc k) n w = choose (ltb w 128) (λ _. digit n w ∷ []) (λ _. spread
 unfoldable pub spread : Bool → ℕ → List ℕ
 spread n w = spreadBy w n w
 
-unfoldable pub integerBytes : Bool → ℕ → List ℕ
-integerBytes n m = spread n (m - beyond n)
+-- so a signed number has one encoding; negsuc w is -1 - w
+unfoldable pub integerBytes : ℤ → List ℕ
+integerBytes (pos w) = spread false w
+integerBytes (negsuc w) = spread true w

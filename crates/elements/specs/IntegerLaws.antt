@@ -3,7 +3,10 @@ use Prim.Native.Nat.{ℕ, zero, suc, _+_, _-_, _*_, _/_, _%_, _≤_, _<_}
 use mathlib.Core.Path.{_≡_, refl, sym, ap, _∙_}
 use mathlib.Core.List.{List, [], _∷_, _++_, append-nil}
 use mathlib.Core.Bool.{Bool, true, false}
+use native.Mathlib.Nat.{add-zero}
+use native.Mathlib.Numerals.{add-one}
 use native.Mathlib.Omega.{arith}
+use lib.IntN.{ℤ, pos, negsuc}
 use lib.ListN.{length, getD}
 use lib.Seq.{append-snoc}
 use lib.Dec.{ltb, eqb}
@@ -13,9 +16,10 @@ use Rattle.elements.specs.Choice.{pick}
 use Rattle.elements.specs.ChoiceLaws.{by-pick}
 use Rattle.elements.specs.Says.{Says, wrong, says, by-test, said}
 use Rattle.elements.specs.declared.answer.Value.the-variants.{Of}
+use Rattle.elements.specs.declared.answer.Form.the-variants as form
 use Rattle.elements.specs.Integer.{most, least, digit, bare, big, beyond, magnitude, whole, padded, integer, spread, integerBytes}
 use Rattle.elements.specs.SpreadLaws.{spread-small, spread-more}
-use Rattle.elements.specs.Encodings.{Whole}
+use Rattle.elements.specs.Encodings.{ToldAs, Encodes}
 
 -- complementing twice, and what it keeps
 twice : (n : Bool) (x : ℕ) → x < 256 → digit n (digit n x) ≡ x
@@ -74,15 +78,28 @@ short-spread {n} (longer {x = x} {y = y} {l = l} h i k g) b =
     ap (λ w. spread n (big w (bare n l))) v ∙ spread-big n (digit n x * 256 + digit n y) l (omega arith) (λ j. b (suc (suc j))) ∙
     rw (spread-more n (digit n x * 256 + digit n y) g, d, m, spread-small n (digit n x) k, twice n x h, twice n y i)
 
--- contents that are read are shortest, and of the sign told
-module _ (c : List ℕ) (b : Bytes c) where
-  short-whole : {n : Bool} → Short n c → Says (Whole c) (magnitude n c)
-  unfolding magnitude integerBytes
-  short-whole {n} h =
-      let k : big 0 (bare n c) + beyond n - beyond n ≡ big 0 (bare n c) = omega arith in
-      says {n = n} {m = least (big 0 (bare n c) + beyond n) most} (record { size = big 0 (bare n c) + beyond n; signed = λ e. rw e (omega arith); bytes = rw k (sym (short-spread h b)); told = refl })
+-- w or -1 - w, its bytes, and what is told of it
+abbrev ofSign : Bool → ℕ → ℤ
+ofSign false w = pos w
+ofSign true w = negsuc w
 
-of-sign : (c : List ℕ) → Bytes c → ((n : Bool) → digit n (getD c 0 0) < 128 → Short n c) → Says (Whole c) (whole c)
+sign-bytes : (n : Bool) (w : ℕ) → integerBytes (ofSign n w) ≡ spread n w
+unfolding integerBytes
+sign-bytes false w = refl
+sign-bytes true w = refl
+
+sign-told : (n : Bool) (w : ℕ) → ToldAs (ofSign n w) n (least (w + beyond n) most)
+sign-told false w = (refl, rw add-zero refl)
+sign-told true w = (refl, rw add-one refl)
+
+-- contents that are read are shortest, and of the sign told
+short-whole : (c : List ℕ) → Bytes c → {n : Bool} → Short n c → Says (Encodes form.Integer c) (magnitude n c)
+unfolding magnitude
+short-whole c b {n} h =
+    let w : ℕ = big 0 (bare n c) in
+    says {n = n} {m = least (w + beyond n) most} (record { worth = ofSign n w; proper = tt; bytes = sym (sign-bytes n w ∙ short-spread h b); told = sign-told n w })
+
+of-sign : (c : List ℕ) → Bytes c → ((n : Bool) → digit n (getD c 0 0) < 128 → Short n c) → Says (Encodes form.Integer c) (whole c)
 unfolding whole
 of-sign c b f =
     by-test (ltb (getD c 0 0) 128) (λ t. short-whole c b (f false (ltb-true (getD c 0 0) 128 t)))
@@ -102,7 +119,7 @@ kept true x y i h k p = go (eqb x 255) refl
     go true e = omega (arith, leb-false 128 y (rw (ne-eqb x 0 (λ z. absurd (omega arith)), e) at p))
     go false e = omega (arith, eqb-false x 255 e)
 
-integer-says : (c : List ℕ) → Bytes c → Says (Whole c) (integer c)
+integer-says : (c : List ℕ) → Bytes c → Says (Encodes form.Integer c) (integer c)
 unfolding integer
 integer-says [] b = wrong
 integer-says (x ∷ []) b = of-sign (x ∷ []) b (λ n h. single (b 0) h)
@@ -111,7 +128,7 @@ integer-says (x ∷ y ∷ l) b =
     (by-test (padded x y) (λ _. wrong) (λ t. of-sign (x ∷ y ∷ l) b (λ n h. longer (b 0) (b 1) h (kept n x y (b 0) h (b 1) t))))
 
 -- contents that are read as an INTEGER are the shortest two's complement of the number told
-pub integer-sound : (c : List ℕ) → Bytes c → {n : Bool} {m : ℕ} → integer c ≡ Of n m → Whole c n m
+pub integer-sound : (c : List ℕ) → Bytes c → {n : Bool} {m : ℕ} → integer c ≡ Of n m → Encodes form.Integer c n m
 integer-sound c b e = said (integer-says c b) e
 
 -- the way back
@@ -160,14 +177,12 @@ spread-is n (suc k) w l = go (ltb w 128) refl (spread-is n k (w / 256))
     go true e r = few n w (ltb-true w 128 e)
     go false e r = many n w (ltb-false w 128 e) (r (omega (arith, ltb-false w 128 e)))
 
-whole-size : (n : Bool) (m : ℕ) → (n ≡ true → 0 < m) → m - beyond n + beyond n ≡ m
-whole-size false m h = omega arith
-whole-size true m h = omega (arith, h refl)
+spread-read : (n : Bool) (w : ℕ) → integer (spread n w) ≡ Of n (least (w + beyond n) most)
+unfolding magnitude
+spread-read n w = let r : Spread n w = spread-is n w w (omega arith) in rw (short-read (r .short), r .comes)
 
 -- every shortest two's complement is read, and as its number
-pub integer-complete : {c : List ℕ} {n : Bool} {m : ℕ} → Whole c n m → integer c ≡ Of n m
-unfolding integerBytes magnitude
-integer-complete {c} {n} {m} w =
-    let r : Spread n (w .size - beyond n) = spread-is n (w .size - beyond n) (w .size - beyond n) (omega arith) in
-    let k : w .size - beyond n + beyond n ≡ w .size = whole-size n (w .size) (w .signed) in
-    rw (w .bytes, short-read (r .short), r .comes, k, w .told)
+pub integer-complete : (z : ℤ) {n : Bool} {m : ℕ} → ToldAs z n m → integer (integerBytes z) ≡ Of n m
+unfolding integerBytes
+integer-complete (pos w) t = rw (t .0, t .1) (rw add-zero at (spread-read false w))
+integer-complete (negsuc w) t = rw (t .0, t .1) (rw add-one at (spread-read true w))

@@ -20,6 +20,7 @@ pub mod Put
 pub mod Record
 pub mod HeaderLaws
 pub mod SealedLaws
+pub mod ToldLaws
 pub mod Says
 pub mod SpreadLaws
 pub mod IntegerLaws

@@ -12,7 +12,8 @@ use Rattle.elements.specs.Choice.{pick}
 use Rattle.elements.specs.ChoiceLaws.{by-less, all-both}
 use Rattle.elements.specs.Integer.{least, most}
 use Rattle.elements.specs.Told.{told}
-use Rattle.elements.specs.Encodings.{Scalar, below, above, Scalars, none, more, utf8, utf8s, Characters}
+use Rattle.elements.specs.declared.answer.Form.the-variants as form
+use Rattle.elements.specs.Encodings.{Scalar, below, above, Scalars, none, more, utf8, utf8s, Encodes}
 use Rattle.elements.specs.declared.fault.Fault.the-variants.{BadText}
 use Rattle.elements.specs.declared.answer.Value.{Value}
 use Rattle.elements.specs.declared.answer.Value.the-variants.{Of, Wrong}
@@ -128,9 +129,9 @@ texts n none = rw add-zero
 texts n (more {u} {l} s ss) = char-read n (utf8s l) (encoded s) ∙ texts (n + 1) ss ∙ ap told (omega arith)
 
 -- every encoding of scalar values is read as text
-pub text-complete : {c : List ℕ} {m : ℕ} → Characters c m → text c ≡ Of false m
+pub text-complete : {us : List ℕ} → Scalars us → text (utf8s us) ≡ told (length us)
 unfolding text told
-text-complete h = rw (h .bytes, h .count, texts 0 (h .each), zero-add)
+text-complete h = rw (texts 0 h, zero-add)
 
 -- ---- from bytes that are read to their scalar values
 -- a row of the table has byte b, and leaves d due
@@ -254,9 +255,9 @@ spelt zero n c h e = absurd (omega arith)
 spelt (suc k) n c h e = spelt-from n c e (λ r l f. spelt k (n + 1) r (omega arith) f)
 
 -- contents that are read as text are the encoding of scalar values, and so many
-pub text-sound : (c : List ℕ) {n : Bool} {m : ℕ} → text c ≡ Of n m → (n ≡ false) × Characters c m
+pub text-sound : (c : List ℕ) {n : Bool} {m : ℕ} → text c ≡ Of n m → Encodes form.Text c n m
 unfolding text told
 text-sound c {n} {m} e =
     let q = spelt (suc (length c)) 0 c (omega arith) e in
     let f : Of false (least (length (q .scalars)) most) ≡ Of n m = rw zero-add at (q .says) in
-    (cc, record { scalars = q .scalars; each = q .each; bytes = q .bytes; count = cc })
+    record { worth = q .scalars; proper = q .each; bytes = q .bytes; told = (cc, cc) }

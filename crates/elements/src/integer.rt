@@ -4,7 +4,7 @@ use crate::put::put_byte;
 ghost use mathlib.Core.Path.{_≡_};
 ghost use Prim.Native.Nat.{_+_, _^_, _<_, _≤_};
 ghost use lib.ListN.{length};
-ghost use Rattle.elements.specs.Integer.{digit, padded, magnitude, whole, integer, spread, integerBytes};
+ghost use Rattle.elements.specs.Integer.{signed, digit, padded, magnitude, whole, integer, spread, integerBytes};
 ghost use Rattle.elements.specs.Put.{Put};
 
 // A byte of a magnitude: as it stands, or complemented where the number is negative.
@@ -91,13 +91,13 @@ fn put_spread(out: &mut [u8], o: usize, negative: bool, w: u32) -> usize
 // The contents of an INTEGER from its sign and magnitude.
 pub fn put_integer(out: &mut [u8], o: usize, negative: bool, m: u32) -> usize
     requires { ⌜ o < 2 ^ 62 ⌝ }
-    ensures { λ r. ⌜ (r ≤ o + 5) × Put (now (out .entry)) (now (out .exit)) o r (integerBytes negative m) ⌝ }
+    ensures { λ r. ⌜ (r ≤ o + 5) × Put (now (out .entry)) (now (out .exit)) o r (integerBytes (signed negative m)) ⌝ }
 {
     if negative {
         if 0 < m {
             return put_spread(out, o, true, m - 1);
         }
-        return put_spread(out, o, true, 0);
+        return put_spread(out, o, false, 0);
     }
     put_spread(out, o, false, m)
 }

@@ -7,9 +7,10 @@ use native.Mathlib.Numerals.{add-one}
 use native.Mathlib.Omega.{arith}
 use lib.ListN.{length, getD, drop, set, replicate, length-replicate, length-set, replicate-append-replicate, drop-of-length-le}
 use lib.Seq.{slice, drop-cons, getD-drop}
+use borrow.Author.Tests.{lt-ltb, le-ltb}
 use Rattle.elements.specs.declared.answer.Form.{Form}
 use Rattle.elements.specs.declared.answer.Form.the-variants.{Integer, Bits, Boolean, Octets, Text, Time, Null}
-use Rattle.elements.specs.Integer.{integerBytes}
+use Rattle.elements.specs.Integer.{signed, integerBytes}
 use Rattle.elements.specs.Bits.{flagBytes}
 use Rattle.elements.specs.Boolean.{booleanBytes}
 use Rattle.elements.specs.Put.{Put}
@@ -18,7 +19,7 @@ use Rattle.makers.specs.declared.made.Made.{Made}
 use Rattle.makers.specs.declared.made.Made.the-variants.{Took, Long}
 use Rattle.rules.specs.declared.table.Row.{Row}
 use Rattle.rules.specs.declared.table.Sequence.{Sequence}
-use Rattle.rules.specs.Reading.{Rec, count, number}
+use Rattle.rules.specs.Reading.{Rec, count, number, untwos}
 use Rattle.rules.specs.Tables.{noRow, rowsOf, restOf}
 use Rattle.rules.specs.Render.{gives, Renderer, nothing, _next_, within, from, plain, unvalue, rRow, rRows, rKeep, rFill}
 use Rattle.rules.specs.Book.{recordsFrom, Ends, nextIs}
@@ -46,13 +47,20 @@ count-two l k h i q = let z : k + 0 ≡ k = omega arith in q ∙ rw (h, i) (rw (
 pub number-four : (l : List ℕ) {x y z w r : ℕ} → x ≡ getD l 0 0 → y ≡ getD l 1 0 → z ≡ getD l 2 0 → w ≡ getD l 3 0 → r ≡ x + 256 * y + 65536 * z + 16777216 * w → r ≡ number l
 number-four l h i j k q = q ∙ rw (h, i, j, k) (number-is l)
 
+-- a number in two's complement: not negative, or negative
+pub twos-plus : {a c : List ℕ} {o q : ℕ} (v : ℕ) → v < 2147483648 → Put a c o q (integerBytes (signed false v)) → Put a c o q (integerBytes (untwos v))
+twos-plus v h f = rw (lt-ltb v 2147483648 h) f
+
+pub twos-minus : {a c : List ℕ} {o q : ℕ} (v : ℕ) → 2147483648 ≤ v → Put a c o q (integerBytes (signed true (4294967295 - v + 1))) → Put a c o q (integerBytes (untwos v))
+twos-minus v h f = rw (le-ltb v 2147483648 h) (rw add-one at f)
+
 -- the contents that a payload tells
 module _ {a c : List ℕ} {o q : ℕ} {f : Form} (p : List ℕ) where
   as-form : (g : Form) → f ≡ g → Put a c o q (unvalue g p) → Put a c o q (unvalue f p)
   as-form g z d = rw z d
 
   module _ {m : ℕ} (h : m ≡ number p) where
-    pub value-integer : f ≡ Integer → Put a c o q (integerBytes false m) → Put a c o q (unvalue f p)
+    pub value-integer : f ≡ Integer → Put a c o q (integerBytes (untwos m)) → Put a c o q (unvalue f p)
     unfolding unvalue
     value-integer z d = as-form Integer z (rw h at d)
 

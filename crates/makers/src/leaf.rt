@@ -21,7 +21,8 @@ ghost use lib.ListN.{length, getD, drop, replicate};
 ghost use lib.Seq.{slice};
 ghost use Rattle.elements.specs.Length.{wrap};
 ghost use Rattle.elements.specs.Put.{Put};
-ghost use Rattle.rules.specs.Reading.{count, number};
+ghost use Rattle.elements.specs.Integer.{integerBytes};
+ghost use Rattle.rules.specs.Reading.{count, number, untwos};
 ghost use Rattle.rules.specs.Tables.{rowsOf, restOf};
 ghost use Rattle.rules.specs.Render.{_next_, gives, from, plain, unvalue, rRow, rRows, rKeep, rFill};
 ghost use Rattle.rules.specs.Book.{recordsFrom};
@@ -62,13 +63,24 @@ fn of_one(x: u8) -> u32
     x as u32
 }
 
+// The contents of an INTEGER from its two's complement in 32 bits.
+fn put_twos(out: &mut [u8], o: usize, v: u32) -> usize
+    requires { ⌜ o ≤ 32768 ⌝ }
+    ensures { λ r. ⌜ Put (now (out .entry)) (now (out .exit)) o r (integerBytes (untwos v)) ⌝ }
+{
+    if v < 2147483648 {
+        return put_integer(out, o, false, v);
+    }
+    put_integer(out, o, true, 4294967295 - v + 1)
+}
+
 // The contents that a payload from p to e tells, by its form.
 fn put_value(b: &[u8], p: usize, e: usize, form: Form, out: &mut [u8], o: usize) -> usize
     requires { ⌜ (p ≤ e) × (e ≤ length (now b)) × (length (now b) ≤ 131072) × (o ≤ 32768) ⌝ }
     ensures { λ r. ⌜ Put (now (out .entry)) (now (out .exit)) o r (unvalue form (slice p e (now (b .entry)))) ⌝ }
 {
     match form {
-        Form::Integer => put_integer(out, o, false, number_at(b, p, e)),
+        Form::Integer => put_twos(out, o, number_at(b, p, e)),
         Form::Bits => put_flags(out, o, number_at(b, p, e)),
         Form::Boolean => put_boolean(out, o, of_one(byte_at(b, p, e, 0))),
         Form::Octets => put_part(out, o, b, p, e),

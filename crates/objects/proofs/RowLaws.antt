@@ -1,13 +1,18 @@
 -- A row's record: the ways through its judging.
-use Prim.Native.Nat.{ℕ, _+_, _-_, _*_, _<_, _≤_}
-use mathlib.Core.Path.{_≡_, refl, sym, _∙_}
-use mathlib.Core.Bool.{Bool, true, false}
+use Prim.Native.Nat.{ℕ, zero, suc, _+_, _-_, _*_, _^_, _<_, _≤_}
+use mathlib.Core.Path.{_≡_, refl, sym, ap, _∙_}
+use mathlib.Core.Bool.{Bool, true, false, not}
 use mathlib.Core.List.{List, [], _∷_}
 use native.Mathlib.Omega.{arith}
+use lib.IntN.{ℤ, pos, negsuc, negℤ, _-ℤ_, +ℤ-idl}
+use lib.Signed.{mag, leZ, ltZ}
 use lib.ListN.{length, getD}
 use lib.Seq.{slice}
-use lib.Dec.{leb, eqb}
-use borrow.Author.Tests.{lt-leb, le-leb}
+use lib.Dec.{eqb}
+use borrow.Author.Tests.{lt-leb, le-leb, lt-ltb, le-ltb}
+use mir.Syntax.{w32, w64}
+use mir.Val.{SFits, toZ, ofZ}
+use mir.Facts.{toZ-ofZ, sfits-widen}
 use Rattle.elements.specs.declared.fault.Fault.{Fault}
 use Rattle.elements.specs.declared.fault.Fault.the-variants.{DefaultWritten, OutOfRange, BadSize}
 use Rattle.elements.specs.declared.answer.Form.{Form}
@@ -16,7 +21,8 @@ use Rattle.elements.specs.declared.answer.Value.{Value}
 use Rattle.elements.specs.declared.answer.Value.the-variants.{Of, Wrong}
 use Rattle.elements.specs.declared.answer.Read.{Read}
 use Rattle.elements.specs.declared.answer.Read.the-variants as read
-use Rattle.elements.specs.ChoiceLaws.{by-pick}
+use Rattle.elements.specs.ChoiceLaws.{by-pick, by-less}
+use Rattle.elements.specs.Integer.{signed}
 use Rattle.elements.specs.Put.{Put, le32}
 use Rattle.elements.specs.Record.{recordBytes}
 use Rattle.elements.specs.Boolean.{boolean}
@@ -26,6 +32,7 @@ use Rattle.objects.specs.declared.part.Part.the-variants.{Took, Fails}
 use Rattle.rules.specs.declared.table.Need.{Need}
 use Rattle.rules.specs.declared.table.Need.the-variants.{Default}
 use Rattle.rules.specs.declared.table.Row.{Row}
+use Rattle.rules.specs.Reading.{twos}
 use Rattle.rules.specs.Parts.{isDefault, inBounds, sized, payload, valued, rowBody, components}
 use Rattle.objects.specs.Did.{Did, fell}
 use Rattle.objects.specs.DidLaws.{did-one, did-as}
@@ -33,12 +40,59 @@ use Rattle.objects.specs.DidLaws.{did-one, did-as}
 pub default-is : {need : Need} {n : Bool} {d : ℕ} (m : ℕ) → need ≡ Default d → n ≡ false → eqb m d ≡ isDefault need n m
 default-is m e z = rw (e, z) refl
 
-module _ (r : Row) {n : Bool} (m : ℕ) (z : n ≡ false) where
-  pub bounds-below : m < r .low → false ≡ inBounds r n m
-  bounds-below h = rw (z, lt-leb (r .low) m h) refl
+-- a magnitude as a signed number
+as-pos : (m : ℕ) → m < 2 ^ 32 → toZ w64 m ≡ pos m
+as-pos m h = toZ-ofZ {w = w64} {z = pos m} (record { sfits = omega arith })
 
-  pub bounds-above : r .low ≤ m → leb m (r .high) ≡ inBounds r n m
-  bounds-above h = rw (z, le-leb (r .low) m h) refl
+minus-small : (m : ℕ) → m < 2 ^ 32 → mag (negℤ (pos m)) < 2 ^ 63
+minus-small zero h = omega arith
+minus-small (suc m) h = omega arith
+
+pub minus-fits : (m : ℕ) → m < 2 ^ 32 → SFits w64 (pos 0 -ℤ toZ w64 m)
+minus-fits m h = rw (as-pos m h, +ℤ-idl (negℤ (pos m))) (record { sfits = minus-small m h })
+
+pub minus-is : (m : ℕ) {n : Bool} → m < 2 ^ 32 → n ≡ true → toZ w64 (ofZ w64 (pos 0 -ℤ toZ w64 m)) ≡ signed n m
+minus-is m h e = toZ-ofZ {w = w64} (minus-fits m h) ∙ rw (as-pos m h, e) (+ℤ-idl (negℤ (pos m)))
+
+pub plus-is : (m : ℕ) {n : Bool} → m < 2 ^ 32 → n ≡ false → toZ w64 m ≡ signed n m
+plus-is m h e = rw e (as-pos m h)
+
+-- a test of order, and the other way round
+lt-le : (a b : ℤ) → leZ b a ≡ not (ltZ a b)
+lt-le (pos a) (pos b) = by-less a b (λ h. rw (lt-leb b a h, lt-ltb a b h) refl) (λ h. rw (le-leb b a h, le-ltb a b h) refl)
+lt-le (pos a) (negsuc b) = refl
+lt-le (negsuc a) (pos b) = refl
+lt-le (negsuc a) (negsuc b) = by-less b a (λ h. rw (lt-leb a b h, lt-ltb b a h) refl) (λ h. rw (le-leb a b h, le-ltb b a h) refl)
+
+-- a bound as a wider number
+pub widens : {b : ℤ} → SFits w32 b → SFits w64 (toZ w32 (ofZ w32 b))
+widens f = rw (toZ-ofZ f) (sfits-widen tt f)
+
+wide : {b : ℤ} → SFits w32 b → toZ w64 (ofZ w64 (toZ w32 (ofZ w32 b))) ≡ b
+wide f = toZ-ofZ {w = w64} (widens f) ∙ toZ-ofZ f
+
+module _ (r : Row) (n : Bool) (m : ℕ) {z : ℤ} (e : z ≡ signed n m) (fz : SFits w64 z) (fl : SFits w32 (r .low)) where
+  low-tested : {t : Bool} → ltZ (toZ w64 (ofZ w64 z)) (toZ w64 (ofZ w64 (toZ w32 (ofZ w32 (r .low))))) ≡ t → leZ (r .low) (signed n m) ≡ not t
+  low-tested t = rw (← e) (lt-le z (r .low) ∙ ap not (rw (toZ-ofZ fz, wide fl) at t))
+
+  pub bounds-below : ltZ (toZ w64 (ofZ w64 z)) (toZ w64 (ofZ w64 (toZ w32 (ofZ w32 (r .low))))) ≡ true → false ≡ inBounds r n m
+  bounds-below t = rw (low-tested t) refl
+
+  pub bounds-above : SFits w32 (r .high) → ltZ (toZ w64 (ofZ w64 z)) (toZ w64 (ofZ w64 (toZ w32 (ofZ w32 (r .low))))) ≡ false → leZ (toZ w64 (ofZ w64 z)) (toZ w64 (ofZ w64 (toZ w32 (ofZ w32 (r .high))))) ≡ inBounds r n m
+  bounds-above fh t = rw (low-tested t, toZ-ofZ fz, wide fh, e) refl
+
+-- its two's complement
+pub twos-minus : (m : ℕ) {n : Bool} → 0 < m → n ≡ true → 4294967295 - (m - 1) ≡ twos (signed n m)
+twos-minus zero h e = absurd (omega arith)
+twos-minus (suc m) h e = let z : suc m - 1 ≡ m = omega arith in rw (e, z) refl
+
+pub twos-zero : (m : ℕ) (n : Bool) → m ≤ 0 → m ≡ twos (signed n m)
+twos-zero zero true h = refl
+twos-zero zero false h = refl
+twos-zero (suc m) n h = absurd (omega arith)
+
+pub twos-plus : (m : ℕ) {n : Bool} → n ≡ false → m ≡ twos (signed n m)
+twos-plus m e = rw e refl
 
 module _ (r : Row) (n : Bool) (m at e : ℕ) where
   pub number-default : {a : List ℕ} {o : ℕ} {t : Bool} → t ≡ isDefault (r .need) n m → t ≡ true → Did a a o at e (valued r at e (payload Integer r [] n m)) (Fails DefaultWritten at)
@@ -50,9 +104,9 @@ module _ (r : Row) (n : Bool) (m at e : ℕ) where
     unfolding payload
     number-out y = rw (sym u ∙ v, sym w ∙ y) (fell refl)
 
-    pub number-put : {a b : List ℕ} {o q : ℕ} → x ≡ true → at + 2 ≤ e → o ≤ 8 * at + 131072 → q ≡ o + 8 → Put a b o q (recordBytes (r .kind) (le32 m)) → Did a b o at e (valued r at e (payload Integer r [] n m)) (Took e q)
+    pub number-put : {a b : List ℕ} {o q v : ℕ} → x ≡ true → at + 2 ≤ e → o ≤ 8 * at + 131072 → v ≡ twos (signed n m) → q ≡ o + 8 → Put a b o q (recordBytes (r .kind) (le32 v)) → Did a b o at e (valued r at e (payload Integer r [] n m)) (Took e q)
     unfolding payload
-    number-put y h l p f = rw (sym u ∙ v, sym w ∙ y) (did-one (r .kind) (le32 m) at e f (omega arith) (omega arith))
+    number-put {v = k} y h l z p f = rw (sym u ∙ v, sym w ∙ y, ← z) (did-one (r .kind) (le32 k) at e f (omega arith) (omega arith))
 
   module _ {t : Bool} (u : t ≡ isDefault (r .need) n m) where
     pub boolean-default : {a : List ℕ} {o : ℕ} → t ≡ true → Did a a o at e (valued r at e (payload Boolean r [] n m)) (Fails DefaultWritten at)

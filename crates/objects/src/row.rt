@@ -19,6 +19,8 @@ ghost use mathlib.Core.List.{[]};
 ghost use lib.ListN.{length};
 ghost use lib.Seq.{slice};
 ghost use Rattle.elements.specs.declared.answer.Form.the-variants.{Integer, Boolean};
+ghost use Rattle.elements.specs.Integer.{signed};
+ghost use Rattle.rules.specs.Reading.{twos};
 ghost use Rattle.rules.specs.Parts.{isDefault, inBounds, sized, payload, valued, component, rowBody, components};
 ghost use Rattle.rules.specs.Tables.{rowsOf};
 ghost use Rattle.objects.specs.Did.{Did, InElement, InContainer};
@@ -39,17 +41,37 @@ fn is_default(need: Need, n: bool, m: u32) -> bool
     }
 }
 
+// The number of a sign and a magnitude.
+fn signed(n: bool, m: u32) -> i64
+    ensures { λ z. ⌜ z ≡ signed n m ⌝ }
+{
+    if n {
+        return 0 - (m as i64);
+    }
+    m as i64
+}
+
 // Whether a number, by sign and magnitude, is in the bounds of a row.
 fn in_bounds(r: Row, n: bool, m: u32) -> bool
     ensures { λ b. ⌜ b ≡ inBounds r n m ⌝ }
 {
+    let z = signed(n, m);
+    if z < r.low as i64 {
+        return false;
+    }
+    z <= r.high as i64
+}
+
+// Its two's complement in 32 bits.
+fn twos(n: bool, m: u32) -> u32
+    ensures { λ v. ⌜ v ≡ twos (signed n m) ⌝ }
+{
     if n {
-        return false;
+        if 0 < m {
+            return 4294967295 - (m - 1);
+        }
     }
-    if m < r.low {
-        return false;
-    }
-    m <= r.high
+    m
 }
 
 // The record of a number, told by sign and magnitude, of an element at `at` that ends at e.
@@ -62,7 +84,7 @@ fn number_row(r: Row, n: bool, m: u32, at: usize, e: usize, out: &mut [u8], o: u
         return Part::Fails(Fault::DefaultWritten, at);
     }
     if in_bounds(r, n, m) {
-        return Part::Took(e, put_number(out, o, r.kind, m));
+        return Part::Took(e, put_number(out, o, r.kind, twos(n, m)));
     }
     Part::Fails(Fault::OutOfRange, at)
 }

@@ -2,16 +2,18 @@
 use Prim.Native.Nat.{ℕ, zero, suc, _+_, _-_, _/_, _%_, _≤_, _<_}
 use mathlib.Core.List.{List, [], _∷_, _++_}
 use mathlib.Core.Bool.{Bool, true, false, _&&_}
+use native.Mathlib.Nat.{le-refl}
 use native.Mathlib.Omega.{arith}
+use lib.IntN.{ℤ, pos, negsuc}
 use lib.ListN.{length, getD, drop, replicate}
 use lib.Dec.{ltb, eqb, T}
 use borrow.Author.Tests.{ltb-true}
 use Rattle.elements.specs.Choice.{choose}
 use Rattle.elements.specs.Sealed.{among}
-use Rattle.rules.specs.Reading.{Rec, count, number}
+use Rattle.rules.specs.Reading.{Rec, count, number, untwos}
 use Rattle.elements.specs.ChoiceLaws.{all-both, by-choose, by-pick, by-less}
 use Rattle.elements.specs.Boolean.{booleanBytes}
-use Rattle.elements.specs.Integer.{most, digit, spread, integerBytes}
+use Rattle.elements.specs.Integer.{digit, spread, integerBytes}
 use Rattle.elements.specs.SpreadLaws.{spread-small, spread-more}
 use Rattle.elements.specs.Bits.{width, flagRun, flagBytes}
 use Rattle.elements.specs.BitsLaws.{reversed-small}
@@ -24,6 +26,7 @@ use Rattle.rules.specs.Looks.{rowsLook}
 use Rattle.rules.specs.LookLaws.{avoids}
 use Rattle.rules.specs.TestLaws.{and-left, and-right}
 use Rattle.rules.specs.ElementLaws.{lowTag, low-tag}
+use Rattle.rules.specs.BoundLaws.{boundsFit}
 use Rattle.rules.specs.RenderLaws.{rowsFit}
 
 -- bytes
@@ -89,6 +92,11 @@ spread-b n (suc k) w l =
     by-less w 128 (λ h. rw (spread-small n w h) (digit-b n w (omega arith), tt))
     (λ h. rw (spread-more n w h) (b-append (spread n (w / 256)) (digit n (w % 256) ∷ []) (spread-b n k (w / 256) (omega arith)) (digit-b n (w % 256) (omega arith), tt)))
 
+pub integer-b : (z : ℤ) → AllB (integerBytes z)
+unfolding integerBytes
+integer-b (pos w) = spread-b false w w (le-refl w)
+integer-b (negsuc w) = spread-b true w w (le-refl w)
+
 pub run-b : (k v : ℕ) → AllB (flagRun k v)
 unfolding flagRun
 run-b zero v = tt
@@ -99,8 +107,8 @@ unfolding flagBytes
 flags-b w = (omega arith, run-b ((width w + 7) / 8) w)
 
 pub value-b : (f : Form) (p : List ℕ) → AllB p → AllB (unvalue f p)
-unfolding unvalue integerBytes booleanBytes
-value-b form.Integer p h = spread-b false (number p - 0) (number p - 0) (omega arith)
+unfolding unvalue booleanBytes
+value-b form.Integer p h = integer-b (untwos (number p))
 value-b form.Bits p h = flags-b (number p)
 value-b form.Boolean p h = by-pick AllB (eqb (getD p 0 0) 0) (λ _. (omega arith, tt)) (λ _. (omega arith, tt))
 value-b form.Octets p h = h
@@ -147,8 +155,8 @@ pub rows-b : (rows : List Row) → T (rowsFit rows) → Outs (rRows rows)
 unfolding rRows rRow
 rows-b [] t = nothing-b
 rows-b (r ∷ rows) t =
-    let a = all-both (lowTag (r .tag) && (ltb (r .high) most && ltb (r .kind) 65536)) (avoids (rowsLook rows .first) (r .kind ∷ []) && rowsFit rows) t in
-    let b = low-tag (r .tag) (and-left (lowTag (r .tag)) (ltb (r .high) most && ltb (r .kind) 65536) (a .0)) in
+    let a = all-both (lowTag (r .tag) && (boundsFit r && ltb (r .kind) 65536)) (avoids (rowsLook rows .first) (r .kind ∷ []) && rowsFit rows) t in
+    let b = low-tag (r .tag) (and-left (lowTag (r .tag)) (boundsFit r && ltb (r .kind) 65536) (a .0)) in
     next-b (when-b (r .kind ∷ []) (within-b (r .tag) (b .byte) (from-b (λ k p a rs h. out (value-b (r .form) p a) h)))) (rows-b rows (and-right (avoids (rowsLook rows .first) (r .kind ∷ [])) (rowsFit rows) (a .1)))
 
 pub many-b : {q : Renderer} (ks : List ℕ) → Outs q → (g : ℕ) → Outs (rMany ks q g)

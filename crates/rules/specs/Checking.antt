@@ -5,6 +5,7 @@ use mathlib.Core.Bool.{Bool, true, false, _&&_}
 use mathlib.Core.Option.{Option, none, some}
 use mathlib.Core.Path.{_≡_, refl, sym, _∙_}
 use native.Mathlib.Omega.{arith}
+use lib.IntN.{ℤ}
 use lib.ListN.{drop}
 use lib.Dec.{eqb, T}
 use borrow.Author.Tests.{eqb-false, eq-eqb, ne-eqb}
@@ -25,7 +26,7 @@ no-refusal : {A : Type 0} (f : Fault) (p : ℕ) (bs : List Rec) (ms : List ℕ) 
 no-refusal f p bs ms n e = let z : _≡_ {A = ℕ} 0 1 = cc in absurd (omega arith)
 
 -- "both or neither"
-abbrev pub BothOrNeither : Option ℕ → Option ℕ → Type 0
+abbrev pub BothOrNeither : Option ℤ → Option ℤ → Type 0
 BothOrNeither none none = Unit {0}
 BothOrNeither none (some l) = ⊥
 BothOrNeither (some i) none = ⊥
@@ -40,25 +41,25 @@ judge-not own x t w true = refuses x t refl
 judge-not own x t w false = passes refl
 
 -- that a test of their records tells
-abbrev both : Option ℕ → Option ℕ → Bool
+abbrev both : Option ℤ → Option ℤ → Bool
 both none none = true
 both none (some l) = false
 both (some i) none = false
 both (some i) (some l) = true
 
-both-is : (i l : Option ℕ) → both i l ≡ true → BothOrNeither i l
+both-is : (i l : Option ℤ) → both i l ≡ true → BothOrNeither i l
 both-is none none e = tt
 both-is none (some l) e = absurd (let z : _≡_ {A = ℕ} 0 1 = cc in omega arith)
 both-is (some i) none e = absurd (let z : _≡_ {A = ℕ} 0 1 = cc in omega arith)
 both-is (some i) (some l) e = tt
 
-is-both : (i l : Option ℕ) → BothOrNeither i l → both i l ≡ true
+is-both : (i l : Option ℤ) → BothOrNeither i l → both i l ≡ true
 is-both none none e = refl
 is-both none (some l) e = absurd e
 is-both (some i) none e = absurd e
 is-both (some i) (some l) e = refl
 
-tested : (k : ℕ) (p : List ℕ) (i l : Option ℕ) → same (has (k + 1) (fields (pathRowsFrom k) .book (p, (i, (l, tt))))) (has (k + 2) (fields (pathRowsFrom k) .book (p, (i, (l, tt))))) ≡ both i l
+tested : (k : ℕ) (p : List ℕ) (i l : Option ℤ) → same (has (k + 1) (fields (pathRowsFrom k) .book (p, (i, (l, tt))))) (has (k + 2) (fields (pathRowsFrom k) .book (p, (i, (l, tt))))) ≡ both i l
 tested k p none none = rw (ne-eqb k (k + 1) (omega arith), ne-eqb k (k + 2) (omega arith)) refl
 tested k p none (some l) = rw (ne-eqb k (k + 1) (omega arith), ne-eqb k (k + 2) (omega arith), ne-eqb (k + 2) (k + 1) (omega arith), eq-eqb (k + 2) (k + 2) refl) refl
 tested k p (some i) none = rw (ne-eqb k (k + 1) (omega arith), ne-eqb k (k + 2) (omega arith), ne-eqb (k + 1) (k + 2) (omega arith), eq-eqb (k + 1) (k + 1) refl) refl
@@ -94,7 +95,7 @@ flags path = record {
 }
   where
     is : (y : passwordPart path .Of) → passwordPart path .Meets y → number (le32 (y .0 .0 .0)) ≡ y .0 .0 .0
-    is y m = number-le32 (y .0 .0 .0) (m .0 .0 .0)
+    is y m = number-le32 (y .0 .0 .0) (m .0 .0 .0 .0)
 
     sound : (own : ℕ) (y : passwordPart path .Of) → passwordPart path .Meets y → (ms : List ℕ) (n : ℕ) (b : Bool) → eqb (number (le32 (y .0 .0 .0)) / 64 % 4) 3 ≡ b →
         choose b (λ _. fails PasswordFlags own) (λ _. took (passwordPart path .book y) ms n) ≡ took (passwordPart path .book y) ms n → y .0 .0 .0 / 64 % 4 ≡ 3 → ⊥

@@ -23,7 +23,7 @@ use Rattle.rules.specs.Lawful.{noFront, isNot, plainLook, those-lawful}
 use Rattle.rules.specs.GrammarLaws as exact
 use Rattle.rules.specs.GrammarLaws.{tags, isClose, lowTag}
 use Rattle.rules.specs.Counted.{Counted, FileLayout, filed, single}
-use Rattle.rules.specs.Layouts.{insides, template, discretionary, pathFrom}
+use Rattle.rules.specs.Layouts.{insides, template, discretionary, pathFrom, template-fine}
 use Rattle.rules.specs.Entries.{objectTag, object, contextTag, item, inEntry, entryBody, rEntry}
 use Rattle.rules.specs.EntryLaws.{object-fine, entryLook, entry-lawful}
 
@@ -130,4 +130,4 @@ dir-real t e =
 
 pub dir-fine : dir .Fine
 unfolding template discretionary pathFrom
-dir-fine = search (tt, dir-real)
+dir-fine = search (tt, dir-real, template-fine)

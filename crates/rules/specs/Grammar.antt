@@ -1,10 +1,12 @@
 -- What a part of a card is, said without reading it: its contents as data, the bytes and the records of the book that they stand as, and what they must meet.
-use Prim.Native.Nat.{ℕ, suc, _+_, _*_, _/_, _%_, _^_, _≤_, _<_}
+use Prim.Native.Nat.{ℕ, suc, _+_, _*_, _/_, _%_, _≤_, _<_}
 use mathlib.Core.Path.{_≡_}
 use mathlib.Core.List.{List, [], _∷_, _++_}
 use mathlib.Core.Bool.{Bool, true, false}
 use mathlib.Core.Logic.{_⊎_, inl, inr}
 use mathlib.Core.Option.{Option, none, some}
+use lib.IntN.{ℤ, pos}
+use lib.Signed.{_≤ℤ_}
 use lib.ListN.{length, replicate}
 use lib.Dec.{ltb}
 use Rattle.elements.specs.declared.answer.Form.{Form}
@@ -12,16 +14,13 @@ use Rattle.elements.specs.declared.answer.Form.the-variants as form
 use Rattle.elements.specs.Choice.{pick}
 use Rattle.elements.specs.Length.{shortest, tagBytes}
 use Rattle.elements.specs.Sealed.{among, constructed}
-use Rattle.elements.specs.Boolean.{booleanBytes}
-use Rattle.elements.specs.Integer.{integerBytes}
-use Rattle.elements.specs.Bits.{flagBytes}
-use Rattle.elements.specs.Encodings.{Scalars, utf8s, Moment}
+use Rattle.elements.specs.Encodings.{utf8s, Worth, Proper, contentsOf, tells}
 use Rattle.elements.specs.Put.{le16, le32}
 use Rattle.rules.specs.declared.table.Need.{Need}
 use Rattle.rules.specs.declared.table.Need.the-variants.{Required, Optional, Default}
 use Rattle.rules.specs.declared.table.Row.{Row}
 use Rattle.rules.specs.declared.table.Sort.{Sort}
-use Rattle.rules.specs.Reading.{Rec, rec}
+use Rattle.rules.specs.Reading.{Rec, rec, twos}
 
 -- an element: class and constructed bit (the first byte's top three bits), the tag's number, the contents
 pub record Element : Type 0 where
@@ -199,30 +198,10 @@ unlessEmpty kind (x ∷ c) = rec kind (x ∷ c) ∷ []
 abbrev pub rest : ℕ → List ℕ → Part
 rest kind out = record { Of = List ℕ; bytes = λ c. c; book = unlessEmpty kind; Meets = SealedRun 16 out }
 
--- the values of a form: a text is its characters, octets are their bytes
-abbrev pub Worth : Form → Type 0
-Worth form.Boolean = ℕ
-Worth form.Integer = ℕ
-Worth form.Bits = ℕ
-Worth form.Null = Unit {0}
-Worth form.Text = List ℕ
-Worth form.Time = List ℕ
-Worth form.Octets = List ℕ
-
--- their contents
-abbrev pub contentsOf : (f : Form) → Worth f → List ℕ
-contentsOf form.Boolean v = booleanBytes v
-contentsOf form.Integer v = integerBytes false v
-contentsOf form.Bits v = flagBytes v
-contentsOf form.Null v = []
-contentsOf form.Text v = utf8s v
-contentsOf form.Time v = v
-contentsOf form.Octets v = v
-
 -- "Flags, integers and enumerations are numbers in the book; BOOLEANs one byte, 00 or 01"
 abbrev pub payOf : (f : Form) → Worth f → List ℕ
 payOf form.Boolean v = v ∷ []
-payOf form.Integer v = le32 v
+payOf form.Integer v = le32 (twos v)
 payOf form.Bits v = le32 v
 payOf form.Null v = []
 payOf form.Text v = utf8s v
@@ -230,23 +209,27 @@ payOf form.Time v = v
 payOf form.Octets v = v
 
 -- "A component equal to its DEFAULT is not written."
-abbrev pub NotDefault : Need → ℕ → Type 0
-NotDefault Required v = Unit {0}
-NotDefault Optional v = Unit {0}
-NotDefault (Default d) v = v ≡ d → ⊥
+abbrev pub NotDefault : Need → ℤ → Type 0
+NotDefault Required z = Unit {0}
+NotDefault Optional z = Unit {0}
+NotDefault (Default d) z = z ≡ pos d → ⊥
 
--- a row's bounds: of a number, of how many bytes octets are, of how many characters a text is
-abbrev pub Within : Row → ℕ → Type 0
-Within r v = (r .low ≤ v) × (v ≤ r .high)
+-- "every component should then state its own bounds": on what its form tells of the value
+abbrev pub Within : Row → ℤ → Type 0
+Within r z = (r .low ≤ℤ z) × (z ≤ℤ r .high)
+
+-- which forms have them, and which a default
+abbrev pub Stated : (f : Form) → Row → ℤ → Type 0
+Stated form.Boolean r z = NotDefault (r .need) z
+Stated form.Integer r z = Within r z × NotDefault (r .need) z
+Stated form.Bits r z = Unit {0}
+Stated form.Null r z = Unit {0}
+Stated form.Text r z = Within r z
+Stated form.Time r z = Unit {0}
+Stated form.Octets r z = Within r z
 
 abbrev pub Fine : (f : Form) → Row → Worth f → Type 0
-Fine form.Boolean r v = (v < 2) × NotDefault (r .need) v
-Fine form.Integer r v = Within r v × NotDefault (r .need) v
-Fine form.Bits r v = v < 2 ^ 32
-Fine form.Null r v = Unit {0}
-Fine form.Text r v = Scalars v × Within r (length v)
-Fine form.Time r v = Moment v
-Fine form.Octets r v = Within r (length v)
+Fine f r v = Proper f v × Stated f r (tells f v)
 
 abbrev pub field : Row → Part
 field r = record {

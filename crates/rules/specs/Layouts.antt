@@ -12,8 +12,8 @@ use Rattle.rules.specs.declared.table.Class.the-variants.{Keys, Certific
 use Rattle.rules.specs.declared.table.ObjectType.{ObjectType}
 use Rattle.rules.specs.declared.table.ObjectType.the-variants.{PrivateKey, Certificate, Password, Sealed}
 use Rattle.rules.specs.declared.table.Sequence.{Sequence}
-use Rattle.rules.specs.declared.table.Sequence.the-variants.{Info, Common, Rule, Key, CertificateAttributes, Authentication, PrivateKeyAttributes, PasswordAttributes, Template, Discretionary}
-use Rattle.rules.specs.Tables.{ciaRows, commonRows, ruleRows, keyRows, certificateRows, authenticationRows, pathRowsFrom, privateRows, passwordRows, templateRows, discretionaryRows, restOf, keptOf, typeOf, classOf}
+use Rattle.rules.specs.declared.table.Sequence.the-variants.{Info, Common, Rule, Key, CertificateAttributes, Authentication, PrivateKeyAttributes, PasswordAttributes, Path, Template, Discretionary, OdfPath, InfoPath}
+use Rattle.rules.specs.Tables.{ciaRows, commonRows, ruleRows, keyRows, certificateRows, authenticationRows, pathKind, pathRowsFrom, privateRows, passwordRows, templateRows, discretionaryRows, restOf, keptOf, typeOf, classOf}
 use Rattle.rules.specs.Rulings.{paired, flagged, flagOf, oursIn, reached, quiet}
 use Rattle.rules.specs.Grammar as grammar
 use Rattle.rules.specs.Conditions.{condition}
@@ -40,7 +40,7 @@ unfoldable pub pathFrom : ℕ → Layout
 pathFrom k = with (ended (fields (pathRowsFrom k))) (paired k) (λ (p, (index, (len, _))). BothOrNeither index len) (pairs k)
 
 abbrev pub path : Layout
-path = pathFrom 0x0180
+path = pathFrom (pathKind Path)
 
 -- "Conditions in prefix order", of at most so many levels
 abbrev pub conditionOf : ℕ → Layout
@@ -118,7 +118,7 @@ contents entry tag = ended (due 0x30 common and due 0x30 (class (classOf entry))
 
 -- "73's contents as clause 7.4 of source document 001 sets out (providerId and the SET sealed)"
 unfoldable pub discretionary : Layout
-discretionary = sealedIf 0x06 0x0206 and maybe 0x30 (pathFrom 0x0207) and maybe 0xa0 (pathFrom 0x020a) and fields discretionaryRows and sealedIf 0x31 0x020e and restIn Discretionary
+discretionary = sealedIf 0x06 0x0206 and maybe 0x30 (pathFrom (pathKind OdfPath)) and maybe 0xa0 (pathFrom (pathKind InfoPath)) and fields discretionaryRows and sealedIf 0x31 0x020e and restIn Discretionary
 
 -- "application templates 61 { identifier 4F of 1 to 16 bytes, label 50?, path 51? of up to 64, 73?, rest } in this order": what stands inside
 abbrev pub templateParts : Layout

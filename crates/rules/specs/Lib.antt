@@ -10,11 +10,13 @@ pub mod FaultLaws
 pub mod Defaults
 pub mod TestLaws
 pub mod ValueLaws
+pub mod BoundLaws
 pub mod LookLaws
 pub mod RenderLaws
 pub mod GrammarLaws
 pub mod FieldLaws
 pub mod Labels
+pub mod KeyReferences
 pub mod ItemLaws
 pub mod Fills
 pub mod FillLaws

@@ -19,7 +19,7 @@ module _ (s : List ℕ) where
   pathFrom k = bodyOf (layouts.pathFrom k) s
 
   abbrev pub path : Body
-  path = pathFrom 0x0180
+  path = bodyOf layouts.path s
 
   abbrev pub condition : ℕ → ℕ → Reader
   condition l k = conditions.condition l .read s k

@@ -2,9 +2,11 @@
 use Prim.Native.Nat.{ℕ, zero, suc, _+_}
 use mathlib.Core.List.{List, [], _∷_, _++_}
 use mathlib.Core.Bool.{Bool, false, _&&_, not}
+use lib.IntN.{ℤ, pos, negℤ}
+use lib.Signed.{leZ}
 use lib.ListN.{length}
 use lib.Seq.{slice}
-use lib.Dec.{ltb, leb, eqb}
+use lib.Dec.{ltb, eqb}
 use Rattle.elements.specs.declared.fault.Fault.{Fault}
 use Rattle.elements.specs.declared.fault.Fault.the-variants.{DefaultWritten, OutOfRange, BadSize, NotDue, OneMore, Missing}
 use Rattle.elements.specs.declared.answer.Form.{Form}
@@ -19,14 +21,33 @@ use Rattle.elements.specs.Choice.{choose}
 use Rattle.elements.specs.Header.{header}
 use Rattle.elements.specs.Sealed.{constructed, sealedRun}
 use Rattle.elements.specs.Values.{value}
+use Rattle.elements.specs.Integer.{signed}
 use Rattle.elements.specs.Put.{le32}
 use Rattle.rules.specs.declared.table.Need.{Need}
 use Rattle.rules.specs.declared.table.Need.the-variants.{Required, Optional, Default}
 use Rattle.rules.specs.declared.table.Row.{Row}
-use Rattle.rules.specs.Reading.{Rec, rec, Res, took, fails, also, andThen, Reader, Body}
+use Rattle.rules.specs.Reading.{Rec, rec, Res, took, fails, also, andThen, Reader, Body, twos}
 
-abbrev pub row : ℕ → ℕ → Form → Need → ℕ → ℕ → Row
-row t k f n l h = record { tag = t; kind = k; form = f; need = n; low = l; high = h }
+-- a row's bounds: "0 to 255", "minus 128 to 255"
+pub record Bounds : Type 0 where
+  pub low : ℤ
+  pub high : ℤ
+
+abbrev pub between : ℤ → ℤ → Bounds
+between l h = record { low = l; high = h }
+
+abbrev pub _to_ : ℕ → ℕ → Bounds
+l to h = between (pos l) (pos h)
+
+abbrev pub minus_to_ : ℕ → ℕ → Bounds
+minus l to h = between (negℤ (pos l)) (pos h)
+
+-- flags, BOOLEANs and times have none beside their form
+abbrev pub unbounded : Bounds
+unbounded = 0 to 0
+
+abbrev pub row : ℕ → ℕ → Form → Need → Bounds → Row
+row t k f n b = record { tag = t; kind = k; form = f; need = n; low = b .low; high = b .high }
 
 -- a record's payload, or what is wrong
 pub data Val : Type 0 where
@@ -39,9 +60,9 @@ isDefault Required n m = false
 isDefault Optional n m = false
 isDefault (Default d) n m = not n && eqb m d
 
--- "outside a stated bound": a negative number is outside every one
+-- "every component should then state its own bounds": of a number of sign n and magnitude m
 abbrev pub inBounds : Row → Bool → ℕ → Bool
-inBounds r n m = not n && (leb (r .low) m && leb m (r .high))
+inBounds r n m = leZ (r .low) (signed n m) && leZ (signed n m) (r .high)
 
 -- "Identifiers are 0 to 255 bytes"; "The bound becomes 255 characters": a row's bounds are on what its form tells
 abbrev pub sized : Row → List ℕ → Bool → ℕ → Val
@@ -51,7 +72,7 @@ sized r c n m = choose (inBounds r n m) (λ _. good c) (λ _. wrong BadSize)
 unfoldable pub payload : Form → Row → List ℕ → Bool → ℕ → Val
 payload form.Integer r c n m =
     choose (isDefault (r .need) n m) (λ _. wrong DefaultWritten)
-    (λ _. choose (inBounds r n m) (λ _. good (le32 m)) (λ _. wrong OutOfRange))
+    (λ _. choose (inBounds r n m) (λ _. good (le32 (twos (signed n m)))) (λ _. wrong OutOfRange))
 payload form.Boolean r c n m = choose (isDefault (r .need) n m) (λ _. wrong DefaultWritten) (λ _. good (m ∷ []))
 payload form.Bits r c n m = good (le32 m)
 payload form.Octets r c n m = sized r c n m
@@ -156,3 +177,6 @@ unlessRequired (Default d) t ts = t ∷ ts
 abbrev pub keptOut : List Row → List ℕ
 keptOut [] = []
 keptOut (r ∷ rs) = unlessRequired (r .need) (r .tag) (keptOut rs)
+
+infix 20 _to_
+infix 20 minus_to_

@@ -1,7 +1,10 @@
 -- Records of the book, and what reading a part answers.
-use Prim.Native.Nat.{ℕ, _+_, _*_}
+use Prim.Native.Nat.{ℕ, _+_, _-_, _*_}
 use mathlib.Core.List.{List, [], _∷_, _++_}
+use lib.IntN.{ℤ, pos, negsuc}
 use lib.ListN.{take}
+use lib.Dec.{ltb}
+use Rattle.elements.specs.Choice.{choose}
 use Rattle.elements.specs.declared.fault.Fault.{Fault}
 
 -- a record of the book: its kind and its payload
@@ -50,5 +53,13 @@ count p = unle (take 2 p)
 
 unfoldable pub number : List ℕ → ℕ
 number p = unle (take 4 p)
+
+-- "0134 holds the two's complement in four bytes", as a number, and back
+abbrev pub twos : ℤ → ℕ
+twos (pos m) = m
+twos (negsuc w) = 4294967295 - w
+
+abbrev pub untwos : ℕ → ℤ
+untwos v = choose (ltb v 2147483648) (λ _. pos v) (λ _. negsuc (4294967295 - v))
 
 infixl 20 _then_

@@ -7,23 +7,24 @@ use mathlib.Core.Logic.{inl, inr}
 use mathlib.Core.Path.{_≡_, refl, sym, ap, _∙_}
 use native.Mathlib.Omega.{arith}
 use lib.ListN.{length, getD, drop, replicate, length-append, length-replicate}
-use lib.Dec.{ltb, leb, T, leb→le, ltb→lt}
+use lib.Dec.{ltb, leb, T, leb→le}
 use borrow.Author.Tests.{eq-eqb}
 use Rattle.elements.specs.declared.answer.Form.{Form}
 use Rattle.elements.specs.declared.answer.Form.the-variants as form
 use Rattle.elements.specs.ChoiceLaws.{all-both}
 use Rattle.elements.specs.CharacterLaws.{utf8s-one}
-use Rattle.elements.specs.Integer.{most}
+use Rattle.elements.specs.Encodings.{Worth, contentsOf}
 use Rattle.elements.specs.Put.{le16, le32}
-use Rattle.rules.specs.Reading.{Rec, rec, count, number}
+use Rattle.rules.specs.Reading.{Rec, rec, count, number, twos, untwos}
 use Rattle.rules.specs.declared.table.Need.{Need}
 use Rattle.rules.specs.declared.table.Need.the-variants.{Required, Optional, Default}
 use Rattle.rules.specs.declared.table.Row.{Row}
 use Rattle.rules.specs.Looks.{Look, look, onlyIf, seqLook, elemLook, offerLook, restLook, manyLook, leastLook, joinLook, rowLook, rowsLook, fillLook}
 use Rattle.rules.specs.Rendering.{gives, Renderer, nothing, _next_, within, rLengthed, when, either, from, plain, unvalue, rRow, rRows, rKeep, rMany, rAll, rTimes, rFill}
-use Rattle.rules.specs.Grammar.{possibly, low, elementBytes, SealedRun, over, shallow, deep, Part, Item, empty, _and_, _or_, one, optional, slot, tagged, with, behind, sealedOne, raw, unlessEmpty, rest, flat, AllMeet, many, oneOf, lengthed, Worth, contentsOf, payOf, Fine, field, fields, fill}
+use Rattle.rules.specs.Grammar.{possibly, low, elementBytes, SealedRun, over, shallow, deep, Part, Item, empty, _and_, _or_, one, optional, slot, tagged, with, behind, sealedOne, raw, unlessEmpty, rest, flat, AllMeet, many, oneOf, lengthed, payOf, Fine, field, fields, fill}
 use Rattle.rules.specs.ElementLaws.{lowTag, LowTag, low-tag, wrap-is, element-long, same-element}
 use Rattle.rules.specs.ValueLaws.{count-le16, number-le32}
+use Rattle.rules.specs.BoundLaws.{boundsFit, within-fits, twos-fits, twos-back}
 use Rattle.rules.specs.LookLaws.{pay-first, Fresh, Begins, avoids, size, Laid, bodily, repeats, subset, implies, under, fresh-left, fresh-right, begins-fresh, begins-hard, begins-soft, begins-one, size-append, laid-append, when-none, when-some, fresh-subset, only, begins-many, begins-more, begins-later, apart, longer, not-empty, begins-subset, begins-seq, either-left, either-right, none, some}
 
 -- q makes the part's bytes of its records, in front of any that may follow
@@ -377,12 +378,12 @@ same-number : (u v : ℕ) → u < 2 ^ 32 → v < 2 ^ 32 → le32 u ≡ le32 v �
 same-number u v h k e = sym (number-le32 u h) ∙ ap number e ∙ number-le32 v k
 
 -- a payload gives the contents back, is not much longer, and tells the value
-module _ (r : Row) (fits : r .high < most) where
+module _ (r : Row) (fits : T (boundsFit r)) where
   pay-back : (f : Form) (v : Worth f) → Fine f r v → unvalue f (payOf f v) ≡ contentsOf f v
   unfolding unvalue
   pay-back form.Boolean v m = refl
-  pay-back form.Integer v m = rw (number-le32 v (omega arith)) refl
-  pay-back form.Bits v m = rw (number-le32 v m) refl
+  pay-back form.Integer v m = let k = within-fits r fits v (m .1 .0) in rw (number-le32 (twos v) (twos-fits v k), twos-back v k) refl
+  pay-back form.Bits v m = rw (number-le32 v (m .0)) refl
   pay-back form.Null v m = refl
   pay-back form.Text v m = refl
   pay-back form.Time v m = refl
@@ -399,8 +400,11 @@ module _ (r : Row) (fits : r .high < most) where
 
   pay-tells : (f : Form) (u v : Worth f) → Fine f r u → Fine f r v → payOf f u ≡ payOf f v → u ≡ v
   pay-tells form.Boolean u v m l e = cc
-  pay-tells form.Integer u v m l e = same-number u v (omega arith) (omega arith) e
-  pay-tells form.Bits u v m l e = same-number u v m l e
+  pay-tells form.Integer u v m l e =
+      let h = within-fits r fits u (m .1 .0) in
+      let k = within-fits r fits v (l .1 .0) in
+      sym (twos-back u h) ∙ ap untwos (same-number (twos u) (twos v) (twos-fits u h) (twos-fits v k) e) ∙ twos-back v k
+  pay-tells form.Bits u v m l e = same-number u v (m .0) (l .0) e
   pay-tells form.Null u v m l e = refl
   pay-tells form.Text u v m l e = utf8s-one u v e
   pay-tells form.Time u v m l e = e
@@ -418,18 +422,18 @@ module _ (r : Row) (fits : r .high < most) where
 -- tags of one byte, numbers that fit, and no kind twice
 abbrev pub rowsFit : List Row → Bool
 rowsFit [] = true
-rowsFit (r ∷ rs) = (lowTag (r .tag) && (ltb (r .high) most && ltb (r .kind) 65536)) && (avoids (rowsLook rs .first) (r .kind ∷ []) && rowsFit rs)
+rowsFit (r ∷ rs) = (lowTag (r .tag) && (boundsFit r && ltb (r .kind) 65536)) && (avoids (rowsLook rs .first) (r .kind ∷ []) && rowsFit rs)
 
 -- the components of a table
 pub fields-renders : (rs : List Row) → T (rowsFit rs) → Renders (fields rs) (rRows rs) (rowsLook rs)
 unfolding rRows rRow
 fields-renders [] t = none-renders
 fields-renders (r ∷ rs) t =
-    let a = all-both (lowTag (r .tag) && (ltb (r .high) most && ltb (r .kind) 65536)) (avoids (rowsLook rs .first) (r .kind ∷ []) && rowsFit rs) t in
-    let b = all-both (lowTag (r .tag)) (ltb (r .high) most && ltb (r .kind) 65536) (a .0) in
-    let c = all-both (ltb (r .high) most) (ltb (r .kind) 65536) (b .1) in
+    let a = all-both (lowTag (r .tag) && (boundsFit r && ltb (r .kind) 65536)) (avoids (rowsLook rs .first) (r .kind ∷ []) && rowsFit rs) t in
+    let b = all-both (lowTag (r .tag)) (boundsFit r && ltb (r .kind) 65536) (a .0) in
+    let c = all-both (boundsFit r) (ltb (r .kind) 65536) (b .1) in
     let d = all-both (avoids (rowsLook rs .first) (r .kind ∷ [])) (rowsFit rs) (a .1) in
-    and-renders (offered-renders {P = field r} (r .need) (r .tag) (low-tag (r .tag) (b .0)) tt tt (field-renders r (ltb→lt (r .high) most (c .0)) (c .1))) (fields-renders rs (d .1)) (d .0)
+    and-renders (offered-renders {P = field r} (r .need) (r .tag) (low-tag (r .tag) (b .0)) tt tt (field-renders r (c .0) (c .1))) (fields-renders rs (d .1)) (d .0)
 
 -- the fill
 pub fill-renders : (kind : ℕ) → T (ltb kind 65536) → Renders (fill kind) (rFill kind) (fillLook kind)

@@ -1,7 +1,6 @@
 -- The forms that every renderer is made of: what comes next is known by the next record's kind.
 use Prim.Native.Nat.{ℕ, zero, suc}
 use mathlib.Core.List.{List, [], _∷_, _++_}
-use mathlib.Core.Bool.{false}
 use lib.ListN.{length, getD, drop, replicate}
 use Rattle.elements.specs.declared.answer.Form.{Form}
 use Rattle.elements.specs.declared.answer.Form.the-variants as form
@@ -13,7 +12,7 @@ use Rattle.elements.specs.Length.{wrap}
 use Rattle.elements.specs.Put.{le16}
 use Rattle.elements.specs.Sealed.{among}
 use Rattle.rules.specs.declared.table.Row.{Row}
-use Rattle.rules.specs.Reading.{Rec, count, number}
+use Rattle.rules.specs.Reading.{Rec, count, number, untwos}
 
 -- bytes, and the records that are left
 pub record Rendered : Type 0 where
@@ -58,7 +57,7 @@ abbrev pub plain : Renderer
 plain = from (λ k p rs. gives p rs)
 
 unfoldable pub unvalue : Form → List ℕ → List ℕ
-unvalue form.Integer p = integerBytes false (number p)
+unvalue form.Integer p = integerBytes (untwos (number p))
 unvalue form.Bits p = flagBytes (number p)
 unvalue form.Boolean p = booleanBytes (getD p 0 0)
 unvalue form.Octets p = p

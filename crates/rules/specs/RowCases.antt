@@ -109,7 +109,13 @@ table =
     -- CommonKeyAttributes: upper bounds
     has keyRows (part 0x04 (replicate 255 0xff) ∷ part 0x03 (0x07 ∷ 0x80 ∷ []) ∷ part 0x01 (0x00 ∷ []) ∷ part 0x03 (0x07 ∷ 0x80 ∷ []) ∷ part 0x02 (0x00 ∷ 0xff ∷ []) ∷ part 0x18 leapDay ∷ part 0x80 leapDay ∷ []) (rec 0x0130 (replicate 255 0xff) ∷ rec 0x0131 (le32 1) ∷ rec 0x0132 (0x00 ∷ []) ∷ rec 0x0133 (le32 1) ∷ rec 0x0134 (le32 255) ∷ rec 0x0135 leapDay ∷ rec 0x0136 leapDay ∷ []) ∷
     -- CommonKeyAttributes: lower bounds
-    has keyRows (part 0x04 [] ∷ part 0x03 (0x00 ∷ []) ∷ part 0x03 (0x00 ∷ []) ∷ part 0x02 (0x00 ∷ []) ∷ []) (rec 0x0130 [] ∷ rec 0x0131 (le32 0) ∷ rec 0x0133 (le32 0) ∷ rec 0x0134 (le32 0) ∷ []) ∷
+    has keyRows (part 0x04 [] ∷ part 0x03 (0x00 ∷ []) ∷ part 0x03 (0x00 ∷ []) ∷ part 0x02 (0x80 ∷ []) ∷ []) (rec 0x0130 [] ∷ rec 0x0131 (le32 0) ∷ rec 0x0133 (le32 0) ∷ rec 0x0134 (0x80 ∷ 0xff ∷ 0xff ∷ 0xff ∷ []) ∷ []) ∷
+    -- keyReference minus 127, and 129: "two values with two encodings"; minus 1, 0, 127
+    has keyRows (part 0x04 [] ∷ part 0x03 (0x00 ∷ []) ∷ part 0x02 (0x81 ∷ []) ∷ []) (rec 0x0130 [] ∷ rec 0x0131 (le32 0) ∷ rec 0x0134 (0x81 ∷ 0xff ∷ 0xff ∷ 0xff ∷ []) ∷ []) ∷
+    has keyRows (part 0x04 [] ∷ part 0x03 (0x00 ∷ []) ∷ part 0x02 (0x00 ∷ 0x81 ∷ []) ∷ []) (rec 0x0130 [] ∷ rec 0x0131 (le32 0) ∷ rec 0x0134 (0x81 ∷ 0x00 ∷ 0x00 ∷ 0x00 ∷ []) ∷ []) ∷
+    has keyRows (part 0x04 [] ∷ part 0x03 (0x00 ∷ []) ∷ part 0x02 (0xff ∷ []) ∷ []) (rec 0x0130 [] ∷ rec 0x0131 (le32 0) ∷ rec 0x0134 (0xff ∷ 0xff ∷ 0xff ∷ 0xff ∷ []) ∷ []) ∷
+    has keyRows (part 0x04 [] ∷ part 0x03 (0x00 ∷ []) ∷ part 0x02 (0x00 ∷ []) ∷ []) (rec 0x0130 [] ∷ rec 0x0131 (le32 0) ∷ rec 0x0134 (0x00 ∷ 0x00 ∷ 0x00 ∷ 0x00 ∷ []) ∷ []) ∷
+    has keyRows (part 0x04 [] ∷ part 0x03 (0x00 ∷ []) ∷ part 0x02 (0x7f ∷ []) ∷ []) (rec 0x0130 [] ∷ rec 0x0131 (le32 0) ∷ rec 0x0134 (0x7f ∷ 0x00 ∷ 0x00 ∷ 0x00 ∷ []) ∷ []) ∷
     -- CommonKeyAttributes: what is required
     has keyRows (part 0x04 [] ∷ part 0x03 (0x00 ∷ []) ∷ []) (rec 0x0130 [] ∷ rec 0x0131 (le32 0) ∷ []) ∷
     -- CommonKeyAttributes: a number in between
@@ -122,6 +128,12 @@ table =
     lacks keyRows 5 2 (part 0x04 [] ∷ []) ∷
     -- native written though TRUE
     lacks keyRows 68 5 (part 0x04 [] ∷ part 0x03 (0x00 ∷ []) ∷ part 0x01 (0xff ∷ []) ∷ []) ∷
+    -- keyReference minus 129; minus 127 too long in form; numbers that end in four bytes of minus 127, of 129 and of minus 2 to the 31
+    lacks keyRows 7 5 (part 0x04 [] ∷ part 0x03 (0x00 ∷ []) ∷ part 0x02 (0xff ∷ 0x7f ∷ []) ∷ []) ∷
+    lacks keyRows 62 5 (part 0x04 [] ∷ part 0x03 (0x00 ∷ []) ∷ part 0x02 (0xff ∷ 0x81 ∷ []) ∷ []) ∷
+    lacks keyRows 7 5 (part 0x04 [] ∷ part 0x03 (0x00 ∷ []) ∷ part 0x02 (0x00 ∷ 0xff ∷ 0xff ∷ 0xff ∷ 0x81 ∷ []) ∷ []) ∷
+    lacks keyRows 7 5 (part 0x04 [] ∷ part 0x03 (0x00 ∷ []) ∷ part 0x02 (0xff ∷ 0x00 ∷ 0x00 ∷ 0x00 ∷ 0x81 ∷ []) ∷ []) ∷
+    lacks keyRows 7 5 (part 0x04 [] ∷ part 0x03 (0x00 ∷ []) ∷ part 0x02 (0x80 ∷ 0x00 ∷ 0x00 ∷ 0x00 ∷ []) ∷ []) ∷
     -- keyReference 256
     lacks keyRows 7 5 (part 0x04 [] ∷ part 0x03 (0x00 ∷ []) ∷ part 0x02 (0x01 ∷ 0x00 ∷ []) ∷ []) ∷
     -- a startDate that is no time
@@ -216,6 +228,19 @@ table =
     lacks pathRows 7 2 (part 0x04 [] ∷ part 0x02 (0x01 ∷ 0x00 ∷ 0x00 ∷ []) ∷ []) ∷
     -- length 65,536
     lacks pathRows 7 2 (part 0x04 [] ∷ part 0x80 (0x01 ∷ 0x00 ∷ 0x00 ∷ []) ∷ []) ∷
+    -- minus 1 as any other number: version, userConsent, authReference, seIdentifier, modulusLength, pwdType, minLength, storedLength, maxLength, pwdReference, index, length
+    lacks ciaRows 7 0 (part 0x02 (0xff ∷ []) ∷ []) ∷
+    lacks commonRows 7 0 (part 0x02 (0xff ∷ []) ∷ []) ∷
+    lacks authenticationRows 7 0 (part 0x02 (0xff ∷ []) ∷ []) ∷
+    lacks authenticationRows 7 0 (part 0x80 (0xff ∷ []) ∷ []) ∷
+    lacks privateRows 7 0 (part 0x02 (0xff ∷ []) ∷ []) ∷
+    lacks passwordRows 7 3 (part 0x03 (0x00 ∷ []) ∷ part 0x0a (0xff ∷ []) ∷ []) ∷
+    lacks passwordRows 7 6 (part 0x03 (0x00 ∷ []) ∷ part 0x0a (0x00 ∷ []) ∷ part 0x02 (0xff ∷ []) ∷ []) ∷
+    lacks passwordRows 7 9 (part 0x03 (0x00 ∷ []) ∷ part 0x0a (0x00 ∷ []) ∷ part 0x02 (0x04 ∷ []) ∷ part 0x02 (0xff ∷ []) ∷ []) ∷
+    lacks passwordRows 7 12 (part 0x03 (0x00 ∷ []) ∷ part 0x0a (0x00 ∷ []) ∷ part 0x02 (0x04 ∷ []) ∷ part 0x02 (0x00 ∷ []) ∷ part 0x02 (0xff ∷ []) ∷ []) ∷
+    lacks passwordRows 7 12 (part 0x03 (0x00 ∷ []) ∷ part 0x0a (0x00 ∷ []) ∷ part 0x02 (0x04 ∷ []) ∷ part 0x02 (0x00 ∷ []) ∷ part 0x80 (0xff ∷ []) ∷ []) ∷
+    lacks pathRows 7 2 (part 0x04 [] ∷ part 0x02 (0xff ∷ []) ∷ []) ∷
+    lacks pathRows 7 2 (part 0x04 [] ∷ part 0x80 (0xff ∷ []) ∷ []) ∷
     -- 61: a native of no byte, of 01; in a bad form though TRUE; an authority in one though FALSE
     lacks keyRows 61 5 (part 0x04 [] ∷ part 0x03 (0x00 ∷ []) ∷ part 0x01 [] ∷ []) ∷
     lacks keyRows 61 5 (part 0x04 [] ∷ part 0x03 (0x00 ∷ []) ∷ part 0x01 (0x01 ∷ []) ∷ []) ∷

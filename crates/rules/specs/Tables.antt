@@ -16,168 +16,115 @@ use Rattle.rules.specs.declared.table.Sequence.{Sequence}
 use Rattle.rules.specs.declared.table.Sequence.the-variants.{Info, Common, Rule, Key, CertificateAttributes, Authentication, PrivateKeyAttributes, PasswordAttributes, Path, Template, Discretionary, OdfPath, InfoPath}
 use Rattle.rules.specs.declared.table.Sort.{Sort}
 use Rattle.rules.specs.declared.table.Sort.the-variants.{Always, Identifier, Not, And, Or, Other}
-use Rattle.rules.specs.Parts.{row, keptOut}
+use Rattle.rules.specs.Parts.{_to_, minus_to_, unbounded, row, keptOut}
 
 -- CIAInfo
 abbrev pub ciaRows : List Row
 ciaRows =
     -- version
-    row 0x02 0x0101 Integer Required 0 255 ∷
+    row 0x02 0x0101 Integer Required (0 to 255) ∷
     -- serialNumber
-    row 0x04 0x0102 Octets Optional 0 255 ∷
+    row 0x04 0x0102 Octets Optional (0 to 255) ∷
     -- manufacturerID
-    row 0x0c 0x0103 Text Optional 0 255 ∷
+    row 0x0c 0x0103 Text Optional (0 to 255) ∷
     -- label
-    row 0x80 0x0104 Text Optional 0 255 ∷
+    row 0x80 0x0104 Text Optional (0 to 255) ∷
     -- cardflags
-    row 0x03 0x0105 Bits Required 0 0 ∷
+    row 0x03 0x0105 Bits Required unbounded ∷
     []
 
 -- CommonObjectAttributes
 abbrev pub commonRows : List Row
 commonRows =
     -- label
-    row 0x0c 0x0121 Text Optional 0 255 ∷
+    row 0x0c 0x0121 Text Optional (0 to 255) ∷
     -- flags
-    row 0x03 0x0122 Bits Optional 0 0 ∷
+    row 0x03 0x0122 Bits Optional unbounded ∷
     -- authId
-    row 0x04 0x0123 Octets Optional 0 255 ∷
+    row 0x04 0x0123 Octets Optional (0 to 255) ∷
     -- userConsent: Annex A has 1 to cia-ub-userConsent, 32,767, and it decides over "1 to 15"
-    row 0x02 0x0124 Integer Optional 1 32767 ∷
+    row 0x02 0x0124 Integer Optional (1 to 32767) ∷
     []
 
 -- AccessControlRule
 abbrev pub ruleRows : List Row
 ruleRows =
     -- accessMode
-    row 0x03 0x0125 Bits Required 0 0 ∷ []
+    row 0x03 0x0125 Bits Required unbounded ∷ []
 
 -- CommonKeyAttributes
 abbrev pub keyRows : List Row
 keyRows =
     -- iD
-    row 0x04 0x0130 Octets Required 0 255 ∷
+    row 0x04 0x0130 Octets Required (0 to 255) ∷
     -- usage
-    row 0x03 0x0131 Bits Required 0 0 ∷
+    row 0x03 0x0131 Bits Required unbounded ∷
     -- native
-    row 0x01 0x0132 Boolean (Default 1) 0 0 ∷
+    row 0x01 0x0132 Boolean (Default 1) unbounded ∷
     -- accessFlags
-    row 0x03 0x0133 Bits Optional 0 0 ∷
+    row 0x03 0x0133 Bits Optional unbounded ∷
     -- keyReference
-    row 0x02 0x0134 Integer Optional 0 255 ∷
+    row 0x02 0x0134 Integer Optional (minus 128 to 255) ∷
     -- startDate
-    row 0x18 0x0135 Time Optional 0 0 ∷
+    row 0x18 0x0135 Time Optional unbounded ∷
     -- endDate
-    row 0x80 0x0136 Time Optional 0 0 ∷
+    row 0x80 0x0136 Time Optional unbounded ∷
     []
 
 -- CommonCertificateAttributes: iD
 abbrev pub certificateIdRow : Row
-certificateIdRow = row 0x04 0x0140 Octets Required 0 255
+certificateIdRow = row 0x04 0x0140 Octets Required (0 to 255)
 
 abbrev pub certificateRows : List Row
 certificateRows =
     certificateIdRow ∷
     -- authority
-    row 0x01 0x0141 Boolean (Default 0) 0 0 ∷
+    row 0x01 0x0141 Boolean (Default 0) unbounded ∷
     []
 
 -- CommonAuthenticationObjectAttributes: authId is the object's own
 abbrev pub ownIdRow : Row
-ownIdRow = row 0x04 0x0150 Octets Optional 0 255
+ownIdRow = row 0x04 0x0150 Octets Optional (0 to 255)
 
 abbrev pub authenticationRows : List Row
 authenticationRows =
     ownIdRow ∷
     -- authReference
-    row 0x02 0x0151 Integer Optional 0 255 ∷
+    row 0x02 0x0151 Integer Optional (0 to 255) ∷
     -- seIdentifier
-    row 0x80 0x0152 Integer Optional 0 255 ∷
+    row 0x80 0x0152 Integer Optional (0 to 255) ∷
     []
 
 -- PrivateRSAKeyAttributes, behind its Path
 abbrev pub privateRows : List Row
 privateRows =
     -- modulusLength
-    row 0x02 0x0183 Integer Required 0 65535 ∷ []
+    row 0x02 0x0183 Integer Required (0 to 65535) ∷ []
 
 -- PasswordAttributes, before its Path: pwdFlags has a rule of its own
 abbrev pub pwdFlagsRow : Row
-pwdFlagsRow = row 0x03 0x0190 Bits Required 0 0
+pwdFlagsRow = row 0x03 0x0190 Bits Required unbounded
 
 abbrev pub passwordRows : List Row
 passwordRows =
     pwdFlagsRow ∷
     -- pwdType
-    row 0x0a 0x0191 Integer Required 0 4 ∷
+    row 0x0a 0x0191 Integer Required (0 to 4) ∷
     -- minLength
-    row 0x02 0x0192 Integer Required 4 8 ∷
+    row 0x02 0x0192 Integer Required (4 to 8) ∷
     -- storedLength
-    row 0x02 0x0193 Integer Required 0 64 ∷
+    row 0x02 0x0193 Integer Required (0 to 64) ∷
     -- maxLength
-    row 0x02 0x0194 Integer Optional 0 65535 ∷
+    row 0x02 0x0194 Integer Optional (0 to 65535) ∷
     -- pwdReference
-    row 0x80 0x0195 Integer (Default 0) 0 255 ∷
+    row 0x80 0x0195 Integer (Default 0) (0 to 255) ∷
     -- padChar
-    row 0x04 0x0196 Octets Optional 1 1 ∷
+    row 0x04 0x0196 Octets Optional (1 to 1) ∷
     -- lastPasswordChange
-    row 0x18 0x0197 Time Optional 0 0 ∷
+    row 0x18 0x0197 Time Optional unbounded ∷
     []
 
--- Path, with records from kind k on: index and length, "both or neither"
-abbrev pub efidOrPathRow : ℕ → Row
-efidOrPathRow k = row 0x04 k Octets Required 0 64
-
-abbrev pub indexRow : ℕ → Row
-indexRow k = row 0x02 (k + 1) Integer Optional 0 65535
-
-abbrev pub lengthRow : ℕ → Row
-lengthRow k = row 0x80 (k + 2) Integer Optional 0 65535
-
-abbrev pub pathRowsFrom : ℕ → List Row
-pathRowsFrom k =
-    efidOrPathRow k ∷
-    indexRow k ∷
-    lengthRow k ∷
-    []
-
-abbrev pub pathRows : List Row
-pathRows = pathRowsFrom 0x0180
-
--- ApplicationTemplate, before its 73
-abbrev pub templateRows : List Row
-templateRows =
-    -- application identifier
-    row 0x4f 0x0202 Octets Required 1 16 ∷
-    -- application label
-    row 0x50 0x0203 Text Optional 0 255 ∷
-    -- path
-    row 0x51 0x0204 Octets Optional 0 64 ∷
-    []
-
--- CIODDO, between its Paths and its SET
-abbrev pub discretionaryRows : List Row
-discretionaryRows =
-    -- aid
-    row 0x4f 0x020d Octets Optional 1 16 ∷ []
-
--- "fixed tables": of each sequence
-abbrev pub rowsOf : Sequence → List Row
-rowsOf Info = ciaRows
-rowsOf Common = commonRows
-rowsOf Rule = ruleRows
-rowsOf Key = keyRows
-rowsOf CertificateAttributes = certificateRows
-rowsOf Authentication = authenticationRows
-rowsOf PrivateKeyAttributes = privateRows
-rowsOf PasswordAttributes = passwordRows
-rowsOf Path = pathRows
-rowsOf Template = templateRows
-rowsOf Discretionary = discretionaryRows
-rowsOf OdfPath = pathRowsFrom 0x0207
-rowsOf InfoPath = pathRowsFrom 0x020a
-
--- the first kind of a Path's records; 0 of what is none
+-- the kind of a Path's first record; 0 of what is none
 abbrev pub pathKind : Sequence → ℕ
 pathKind Info = 0
 pathKind Common = 0
@@ -192,6 +139,69 @@ pathKind Template = 0
 pathKind Discretionary = 0
 pathKind OdfPath = 0x0207
 pathKind InfoPath = 0x020a
+
+-- Path, with records from kind k on: index and length, "both or neither"
+abbrev pub efidOrPathRow : ℕ → Row
+efidOrPathRow k = row 0x04 k Octets Required (0 to 64)
+
+abbrev pub indexRow : ℕ → Row
+indexRow k = row 0x02 (k + 1) Integer Optional (0 to 65535)
+
+abbrev pub lengthRow : ℕ → Row
+lengthRow k = row 0x80 (k + 2) Integer Optional (0 to 65535)
+
+abbrev pub pathRowsFrom : ℕ → List Row
+pathRowsFrom k =
+    efidOrPathRow k ∷
+    indexRow k ∷
+    lengthRow k ∷
+    []
+
+abbrev pub pathRows : List Row
+pathRows = pathRowsFrom (pathKind Path)
+
+-- ApplicationTemplate, before its 73: application identifier, application label, path
+abbrev pub templateIdRow : Row
+templateIdRow = row 0x4f 0x0202 Octets Required (1 to 16)
+
+abbrev pub templateLabelRow : Row
+templateLabelRow = row 0x50 0x0203 Text Optional (0 to 255)
+
+abbrev pub templatePathRow : Row
+templatePathRow = row 0x51 0x0204 Octets Optional (0 to 64)
+
+abbrev pub templateRows : List Row
+templateRows =
+    templateIdRow ∷
+    templateLabelRow ∷
+    templatePathRow ∷
+    []
+
+-- CIODDO, between its Paths and its SET
+abbrev pub discretionaryRows : List Row
+discretionaryRows =
+    -- aid
+    row 0x4f 0x020d Octets Optional (1 to 16) ∷ []
+
+-- "fixed tables": of each sequence
+abbrev pub rowsOf : Sequence → List Row
+rowsOf Info = ciaRows
+rowsOf Common = commonRows
+rowsOf Rule = ruleRows
+rowsOf Key = keyRows
+rowsOf CertificateAttributes = certificateRows
+rowsOf Authentication = authenticationRows
+rowsOf PrivateKeyAttributes = privateRows
+rowsOf PasswordAttributes = passwordRows
+rowsOf Path = pathRows
+rowsOf Template = templateRows
+rowsOf Discretionary = discretionaryRows
+rowsOf OdfPath = pathRowsFrom (pathKind OdfPath)
+rowsOf InfoPath = pathRowsFrom (pathKind InfoPath)
+
+-- every sequence with a table
+abbrev pub sequences : List Sequence
+sequences = Info ∷ Common ∷ Rule ∷ Key ∷ CertificateAttributes ∷ Authentication ∷ PrivateKeyAttributes ∷ PasswordAttributes ∷ Path ∷ Template ∷ Discretionary ∷ OdfPath ∷ InfoPath ∷ []
 
 -- "rest 0106", "rest 012F" ..: the kind that a sequence's rest is kept as; a Path has none
 abbrev pub restOf : Sequence → ℕ
@@ -231,7 +241,7 @@ keptOf q = beside q ++ keptOut (rowsOf q)
 
 -- what stands behind a table's end
 abbrev pub noRow : Row
-noRow = row 0 0 Boolean Required 0 0
+noRow = row 0 0 Boolean Required unbounded
 
 -- the kind of a table's first record: by it a renderer knows that the sequence comes
 abbrev pub mark : List Row → List ℕ

@@ -5,11 +5,11 @@ use elements::Form;
 ghost use mathlib.Core.Path.{_≡_};
 ghost use Prim.Native.Nat.{_<_};
 ghost use lib.ListN.{length, getD};
-ghost use Rattle.rules.specs.Parts.{row};
+ghost use Rattle.rules.specs.Parts.{between, row};
 ghost use Rattle.rules.specs.Tables.{rowsOf, restOf, noRow};
 
 // A row of a table, in the order of the definitions: tag, kind, form, need, low, high.
-struct Line(u8, u16, Form, Need, u32, u32);
+struct Line(u8, u16, Form, Need, i32, i32);
 
 // CIAInfo
 const INFO: [Line; 5] = [
@@ -54,7 +54,7 @@ const KEY: [Line; 7] = [
     // accessFlags
     Line(0x03, 0x0133, Form::Bits, Need::Optional, 0, 0),
     // keyReference
-    Line(0x02, 0x0134, Form::Integer, Need::Optional, 0, 255),
+    Line(0x02, 0x0134, Form::Integer, Need::Optional, -128, 255),
     // startDate
     Line(0x18, 0x0135, Form::Time, Need::Optional, 0, 0),
     // endDate
@@ -153,7 +153,7 @@ const INFO_PATH: [Line; 3] = [
 
 // A line as a row.
 fn row(l: Line) -> Row
-    ensures { λ r. ⌜ r ≡ row (l .0) (l .1) (l .2) (l .3) (l .4) (l .5) ⌝ }
+    ensures { λ r. ⌜ r ≡ row (l .0) (l .1) (l .2) (l .3) (between (l .4) (l .5)) ⌝ }
 {
     let form = l.2;
     let need = l.3;

@@ -14,8 +14,8 @@ pub struct Row {
     pub kind: u16,
     pub form: Form,
     pub need: Need,
-    pub low: u32,
-    pub high: u32,
+    pub low: i32,
+    pub high: i32,
 }
 
 // The sequences whose components stand in tables.

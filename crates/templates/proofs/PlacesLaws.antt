@@ -9,7 +9,7 @@ use lib.Dec.{ltb, eqb}
 use borrow.Author.Tests.{eq-eqb, ne-eqb, ltb-false}
 use Rattle.elements.specs.declared.fault.Fault.{Fault}
 use Rattle.elements.specs.declared.fault.Fault.the-variants.{Missing}
-use Rattle.elements.specs.declared.answer.Form.the-variants.{Octets, Text}
+use Rattle.elements.specs.declared.answer.Form.the-variants.{Octets}
 use Rattle.elements.specs.declared.answer.Head.{Head}
 use Rattle.elements.specs.declared.answer.Head.the-variants.{At, No}
 use Rattle.elements.specs.declared.answer.Run.{Run}
@@ -23,11 +23,10 @@ use Rattle.elements.specs.HeaderLaws.{header-in}
 use Rattle.elements.specs.Sealed.{sealedRun}
 use Rattle.elements.specs.Values.{value}
 use Rattle.rules.specs.declared.table.Need.the-variants.{Required, Optional}
-use Rattle.rules.specs.declared.table.Row.{Row}
 use Rattle.rules.specs.declared.table.Sequence.the-variants.{Template, Discretionary}
 use Rattle.rules.specs.Reading.{Rec, rec, Res, took, fails, also, andThen}
-use Rattle.rules.specs.Parts.{Val, row, component, components, rowBody, rest, keep, due, valued, inBounds, payload, judged}
-use Rattle.rules.specs.Tables.{restOf, keptOf}
+use Rattle.rules.specs.Parts.{Val, component, components, rowBody, rest, keep, due, valued, inBounds, payload, judged}
+use Rattle.rules.specs.Tables.{templateIdRow, templateLabelRow, templatePathRow, restOf, keptOf}
 use Rattle.rules.specs.Rulings.{ours, headedBy, oursIn, unreached, reached}
 use Rattle.rules.specs.Layouts as layouts
 use Rattle.objects.specs.SeenLaws.{Seen, bad, gone, stood, seen}
@@ -87,18 +86,15 @@ data Named (mine : Bool) : Res → Type 0 where
   no-name : {f : Fault} {p : ℕ} → Named mine (fails f p)
   has-name : (p : List ℕ) {n : ℕ} → mine ≡ ours p → Named mine (took (rec 0x0202 p ∷ []) [] n)
 
-abbrev aidRow : Row
-aidRow = row 0x4f 0x0202 Octets Required 1 16
-
-named : (s : List ℕ) (end at : ℕ) → Named (oursAt s end at) (component s 0x4f Required (rowBody s aidRow) end at)
+named : (s : List ℕ) (end at : ℕ) → Named (oursAt s end at) (component s 0x4f Required (rowBody s templateIdRow) end at)
 unfolding component rowBody payload
 named s end at = by-choose (Named (oursAt s end at)) (ltb at end) (λ _ _. go (header s at end) refl) (λ _ _. no-name)
   where
-    told : (c : List ℕ) (e : ℕ) → oursAt s end at ≡ ours c → (v : Value) → Named (oursAt s end at) (valued aidRow at e (judged aidRow c v))
+    told : (c : List ℕ) (e : ℕ) → oursAt s end at ≡ ours c → (v : Value) → Named (oursAt s end at) (valued templateIdRow at e (judged templateIdRow c v))
     told c e z (Wrong f) = no-name
-    told c e z (Of n m) = by-choose (λ (v : Val). Named (oursAt s end at) (valued aidRow at e v)) (inBounds aidRow n m) (λ _ _. has-name c z) (λ _ _. no-name)
+    told c e z (Of n m) = by-choose (λ (v : Val). Named (oursAt s end at) (valued templateIdRow at e v)) (inBounds templateIdRow n m) (λ _ _. has-name c z) (λ _ _. no-name)
 
-    go : (h : Head) → header s at end ≡ h → Named (oursAt s end at) (due 0x4f Required (rowBody s aidRow) at h)
+    go : (h : Head) → header s at end ≡ h → Named (oursAt s end at) (due 0x4f Required (rowBody s templateIdRow) at h)
     go (No f p) k = no-name
     go (At t a e) k = by-choose (Named (oursAt s end at)) (eqb t 0x4f) (λ _ _. told (slice a e s) e (rw k refl) (value Octets (slice a e s))) (λ _ _. no-name)
 
@@ -185,6 +181,6 @@ module _ (mine : Bool) (end : ℕ) (r : Res) (f1 f2 f3 f4 : ℕ → Res) where
 pub by-places : (s : List ℕ) (own end at : ℕ) → layouts.template .read s own end at ≡ template s end at
 unfolding layouts.template layouts.discretionary components
 by-places s own end at =
-    same-order (oursAt s end at) end (component s 0x4f Required (rowBody s aidRow) end at) (λ n. component s 0x50 Optional (rowBody s (row 0x50 0x0203 Text Optional 0 255)) end n) (λ n. component s 0x51 Optional (rowBody s (row 0x51 0x0204 Octets Optional 0 64)) end n)
+    same-order (oursAt s end at) end (component s 0x4f Required (rowBody s templateIdRow) end at) (λ n. component s 0x50 Optional (rowBody s templateLabelRow) end n) (λ n. component s 0x51 Optional (rowBody s templatePathRow) end n)
     (λ n. component s 0x73 Optional (openedBody s) end n) (λ n. rest s 0x0210 (keptOf Template) end n)
-    (named s end at) (λ n. seen s (row 0x50 0x0203 Text Optional 0 255) end n) (λ n. seen s (row 0x51 0x0204 Octets Optional 0 64) end n) (λ n. inner s end n) (λ n. last s 0x0210 (keptOf Template) end n)
+    (named s end at) (λ n. seen s templateLabelRow end n) (λ n. seen s templatePathRow end n) (λ n. inner s end n) (λ n. last s 0x0210 (keptOf Template) end n)

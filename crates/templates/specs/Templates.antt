@@ -10,10 +10,10 @@ use Rattle.elements.specs.declared.answer.Head.the-variants.{At, No}
 use Rattle.elements.specs.Choice.{choose, pick}
 use Rattle.elements.specs.Header.{header}
 use Rattle.rules.specs.declared.table.Need.the-variants.{Optional}
-use Rattle.rules.specs.declared.table.Sequence.the-variants.{Template, Discretionary}
+use Rattle.rules.specs.declared.table.Sequence.the-variants.{Template, Discretionary, OdfPath, InfoPath}
 use Rattle.rules.specs.Reading.{rec, Res, took, fails, also, andThen, Reader, Body, _then_}
 use Rattle.rules.specs.Parts.{component, components, element, repeat, rest, sealed}
-use Rattle.rules.specs.Tables.{templateRows, discretionaryRows, restOf, keptOf}
+use Rattle.rules.specs.Tables.{pathKind, templateRows, discretionaryRows, restOf, keptOf}
 use Rattle.rules.specs.Objects.{pathFrom}
 use Rattle.rules.specs.Rulings.{ours, headedBy}
 use Rattle.rules.specs.Files.{toFill, fill}
@@ -29,10 +29,10 @@ settled mine i j k end n = choose (unreachedBy mine i j k) (λ _. fails Missing 
 module _ (s : List ℕ) where
   -- providerId and odfPath; ciaInfoPath; aid; the SET; the rest
   abbrev pub odfPath : Reader
-  odfPath = component s 0x06 Optional (sealed s 0x0206 [] 0x06) then component s 0x30 Optional (pathFrom s 0x0207)
+  odfPath = component s 0x06 Optional (sealed s 0x0206 [] 0x06) then component s 0x30 Optional (pathFrom s (pathKind OdfPath))
 
   abbrev pub bothPaths : Reader
-  bothPaths = odfPath then component s 0xa0 Optional (pathFrom s 0x020a)
+  bothPaths = odfPath then component s 0xa0 Optional (pathFrom s (pathKind InfoPath))
 
   abbrev pub withAid : Reader
   withAid = bothPaths then components s discretionaryRows

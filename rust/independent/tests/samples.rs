@@ -37,3 +37,12 @@ fn two_scripts() {
     assert_eq!(field(&book, 2, 0x0121), Ok((372, 317)));
     assert_eq!(std::str::from_utf8(&book[372..689]).unwrap().chars().count(), 222);
 }
+
+/// Slot 0x81 as minus 127, and as 129.
+#[test]
+fn two_slots() {
+    let rows = [[1, 0, 88, 4], [3, 0, 93, 2], [1, 1, 160, 4], [3, 1, 165, 3]];
+    let book = book(include_bytes!("../../../samples/two-slots.dump"), [294, 343], &rows);
+    assert_eq!([field(&book, 0, 0x0134), field(&book, 1, 0x0134)], [Ok((110, 4)), Ok((182, 4))]);
+    assert_eq!([&book[110..114], &book[182..186]], [&[0x81, 0xFF, 0xFF, 0xFF], &[0x81, 0x00, 0x00, 0x00]]);
+}

@@ -11,11 +11,6 @@ fn template(parts: &[&str]) -> Vec<u8> {
     tlv(0x61, &[hex(&parts.concat())])
 }
 
-/// A template that is not ours, of a 4F of three bytes and a 73: 4 the template, 6 the 4F, 9 the 73, 11 its first part.
-fn with_73(parts: &[Vec<u8>]) -> Vec<u8> {
-    with_dir(&tlv(0x61, &[hex("4F0101"), tlv(0x73, parts)]))
-}
-
 /// The 4F of ours, seven bytes.
 const OURS: &str = "4F05 E828BD080F";
 

@@ -3,112 +3,14 @@
 
 mod common;
 
+use common::components::*;
 use common::*;
 use independent::read::values;
-
-/// A dump, and the place of the component that it is about.
-type Case = (Vec<u8>, usize);
-
-fn all_refused(cases: Vec<Case>, number: u32) {
-    for (dump, place) in cases {
-        refused(&dump, number, place);
-    }
-}
-
-fn all_accepted(cases: Vec<Case>) {
-    for (dump, _) in cases {
-        accepted(&dump);
-    }
-}
-
-/// An element with these contents.
-fn with(tag: u8, contents: &[u8]) -> Vec<u8> {
-    tlv(tag, &[contents.to_vec()])
-}
-
-/// CIAInfo with these components, and an empty EF.OD: 4 the sequence, 6 the first of them.
-fn with_info(parts: &[Vec<u8>]) -> Vec<u8> {
-    [record(1, &tlv(0x30, parts)), record(2, &[])].concat()
-}
-
-/// A data container with this component in its common: 20 the object, 22 the common, 24 the component.
-fn common(component: &[u8]) -> Vec<u8> {
-    inline(0xA7, &[with_common(&[component.to_vec()])])
-}
-
-/// An object with these components in its class, its type being sealed: 20 the object, 22 the common, 24 the class,
-/// 26 the first of them.
-fn class(entry: u8, components: &[u8]) -> Vec<u8> {
-    inline(entry, &[tlv(0xA1, &[hex("3000"), with(0x30, components), hex("A1020500")])])
-}
-
-/// A key with this component: 26 iD, 28 usage, 31 the component.
-fn key(entry: u8, component: &[u8]) -> Vec<u8> {
-    class(entry, &[&hex("0400 030100"), component].concat())
-}
-
-/// A certificate with this component: 26 iD, 28 the component.
-fn certificate(entry: u8, component: &[u8]) -> Vec<u8> {
-    class(entry, &[&hex("0400"), component].concat())
-}
-
-/// A private key of tag 30: 20 the object, 22 the common, 24 the class, 31 the A1, 33 the sequence, 35 the Path,
-/// 39 modulusLength.
-fn private_key(modulus_length: &[u8]) -> Vec<u8> {
-    let sequence = with(0x30, &[&hex("30020400"), modulus_length].concat());
-    inline(0xA0, &[tlv(0x30, &[hex("3000 30050400030100"), with(0xA1, &sequence)])])
-}
-
-/// A certificate of tag 30 with a Path: 20 the object, 22 the common, 24 the class, 28 the A1, 30 the sequence,
-/// 32 the Path, 34 its 04, 36 these components.
-fn path(components: &[u8]) -> Vec<u8> {
-    let path = with(0x30, &[&hex("0400"), components].concat());
-    inline(0xA4, &[tlv(0x30, &[hex("3000 30020400"), with(0xA1, &with(0x30, &path))])])
-}
-
-/// A password of these components: 20 the object, 22 the common, 24 the class, 26 the A1, 28 the sequence, 30 the first
-/// of them.
-fn components(components: &[u8]) -> Vec<u8> {
-    inline(0xA8, &[password(&[components.to_vec()])])
-}
-
-/// A password with this option: 30 pwdFlags, 33 pwdType, 36 minLength, 39 storedLength, 42 the option.
-fn option(option: &[u8]) -> Vec<u8> {
-    components(&[&password_needs(), option].concat())
-}
 
 /// native and authority with these contents.
 fn booleans(contents: &str) -> Vec<Case> {
     let boolean = with(0x01, &hex(contents));
     vec![(key(0xA1, &boolean), 31), (certificate(0xA5, &boolean), 28)]
-}
-
-/// All thirteen INTEGERs and ENUMERATEDs with these contents.
-fn integers(contents: &str) -> Vec<Case> {
-    let [integer, enumerated, context] = [0x02, 0x0A, 0x80].map(|tag| with(tag, &hex(contents)));
-    vec![
-        // version
-        (with_info(&[integer.clone(), hex("030100")]), 6),
-        // userConsent
-        (common(&integer), 24),
-        // keyReference
-        (key(0xA1, &integer), 31),
-        // authReference and seIdentifier
-        (class(0xA8, &integer), 26),
-        (class(0xA8, &context), 26),
-        // modulusLength
-        (private_key(&integer), 39),
-        // index, and length behind an index of three bytes
-        (path(&[&integer, &hex("800100")[..]].concat()), 36),
-        (path(&[&hex("020100"), &context[..]].concat()), 39),
-        // pwdType, minLength, storedLength
-        (components(&[&hex("030100"), &enumerated[..], &hex("020104 020108")].concat()), 33),
-        (components(&[&hex("030100 0A0101"), &integer[..], &hex("020108")].concat()), 36),
-        (components(&[&hex("030100 0A0101 020104"), &integer[..]].concat()), 39),
-        // maxLength and pwdReference
-        (option(&integer), 42),
-        (option(&context), 42),
-    ]
 }
 
 /// All six bit strings with these contents.
@@ -176,9 +78,13 @@ fn integer() {
 
 #[test]
 fn integer_form_before_range() {
-    // 65,536, 2^32, -1, -128, -129: out of all bounds, the form being right
-    for over in ["010000", "0100000000", "FF", "80", "FF7F"] {
+    // 65,536, 2^32, -129: out of all bounds, the form being right
+    for over in ["010000", "0100000000", "FF7F"] {
         all_refused(integers(over), 7);
+    }
+    // -1 and -128: out of all but keyReference's
+    for over in ["FF", "80"] {
+        all_refused(other_integers(over), 7);
     }
     // 65,536, 2^64, -1 and -256 with one byte too many
     for both in ["00010000", "00010000000000000000", "FFFF", "FFFF00"] {
@@ -197,10 +103,12 @@ fn every_integer_of_two_bytes() {
     for value in i16::MIN..=i16::MAX {
         let due = match value {
             -128..=127 => Err(62),
-            128..=255 => Ok(value as u32),
+            128..=255 => Ok(value.into()),
             _ => Err(7),
         };
-        assert_eq!(values::integer(&value.to_be_bytes(), 0, 255), due);
+        for low in [0, -128] {
+            assert_eq!(values::integer(&value.to_be_bytes(), low, 255), due);
+        }
     }
 }
 

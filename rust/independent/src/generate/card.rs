@@ -53,6 +53,19 @@ pub fn flawed_templates(rng: &mut Rng) -> Card {
     card
 }
 
+/// A card with one more object, a key whose keyReference may be wrong or another whose numbers may; all else is right.
+pub fn flawed_numbers(rng: &mut Rng) -> Card {
+    let mut card = valid(rng);
+    let key = rng.between(0xA0, 0xA3) as u8;
+    let other = rng.pick(&[0xA0, 0xA4, 0xA8, 0xA8, 0xA8]);
+    let (tag, flaw) = rng.pick(&[(key, Flaw::KeyReference), (other, Flaw::Integer)]);
+    let mut maker = spare_maker(rng);
+    (maker.flaws, maker.small) = (vec![flaw], true);
+    let object = maker.object(tag);
+    card.directory.nodes.push(group(tag, vec![group(0xA0, vec![object])]));
+    card
+}
+
 /// A card that may have one or two of the flaws.
 pub fn flawed(rng: &mut Rng) -> Card {
     let mut flaws = vec![rng.pick(&FLAWS)];

@@ -6,6 +6,8 @@ use super::maker::Maker;
 #[derive(Clone, Copy, PartialEq, Eq)]
 pub enum Flaw {
     Integer,
+    /// A keyReference out of its bounds or in a bad form, in the one key that a card is given for it.
+    KeyReference,
     Flags,
     Text,
     /// A text of one character too many, or no text where the bound is.
@@ -91,7 +93,7 @@ impl Maker<'_> {
         let percent = match flaw {
             _ if self.often => 50,
             Flaw::Integer | Flaw::Flags | Flaw::Tag | Flaw::Identifier => 12,
-            Flaw::Characters | Flaw::Default | Flaw::Second => 80,
+            Flaw::KeyReference | Flaw::Characters | Flaw::Default | Flaw::Second => 80,
             _ => 40,
         };
         self.flaws.contains(&flaw) && self.rng.chance(percent)

@@ -12,15 +12,14 @@ impl Maker<'_> {
         self.rng.pick(&[vec![], vec![0x01], vec![other], twice, vec![0xFF, 0x00], vec![0x00, other]])
     }
 
-    /// 62: no byte, or more than this number needs, or than a negative one does.
-    pub fn bad_integer(&mut self, number: u32) -> Vec<u8> {
-        let count = self.rng.pick(&[1, 1, 1, 2, 8]);
-        let negative = self.rng.byte() | 0x80;
-        match self.rng.below(6) {
-            0 => vec![],
-            1 => [vec![0xFF; count], vec![negative]].concat(),
-            _ => [vec![0x00; count], integer_contents(number)].concat(),
+    /// 62: no byte, or more than this number needs.
+    pub fn bad_integer(&mut self, number: i64) -> Vec<u8> {
+        if self.rng.below(6) == 0 {
+            return vec![];
         }
+        let sign = if number < 0 { 0xFF } else { 0x00 };
+        let count = self.rng.pick(&[1, 1, 1, 2, 8]);
+        [vec![sign; count], integer_contents(number)].concat()
     }
 
     /// 63: no count, one of more than 7 or without bytes, or unused bits set, whatever the bits before them are.

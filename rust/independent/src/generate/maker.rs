@@ -3,7 +3,7 @@
 use super::flaw::Flaw;
 use super::node::{leaf, Node};
 use super::rng::Rng;
-use crate::write::element::{flag_contents, integer_contents};
+use crate::write::element::flag_contents;
 
 pub struct Maker<'a> {
     pub rng: &'a mut Rng,
@@ -70,32 +70,6 @@ impl Maker<'_> {
             2 => self.rng.between(low, high),
             3 => self.rng.between(126, 129).clamp(low, high),
             _ => self.rng.between(low, high.min(low + 6)),
-        }
-    }
-
-    pub fn integer(&mut self, tag: u8, low: u32, high: u32) -> Node {
-        if self.flaw(Flaw::Integer) {
-            return leaf(tag, self.wrong_integer(low, high));
-        }
-        let edges = [low, low + 1, 127, 128, 255, 256, 32_767, 32_768, high - 1, high];
-        let any = low + (self.rng.draw() % u64::from(high - low + 1)) as u32;
-        let value = if self.rng.chance(50) { self.rng.pick(&edges).clamp(low, high) } else { any };
-        leaf(tag, integer_contents(value))
-    }
-
-    /// A number out of its bounds, or one in a bad form, in its bounds or not.
-    fn wrong_integer(&mut self, low: u32, high: u32) -> Vec<u8> {
-        let number = self.rng.pick(&[0, low, high, high + 1]);
-        match self.rng.below(12) {
-            0..=3 => integer_contents(high + 1),
-            4 => integer_contents(low.saturating_sub(1)),
-            5 => vec![self.rng.pick(&[0xFF, 0x80, 0xFE])],
-            6 => vec![0xFF, 0x7F],
-            7 => {
-                let count = self.rng.between(3, 9);
-                [vec![1], self.rng.bytes(count)].concat()
-            }
-            _ => self.bad_integer(number),
         }
     }
 

@@ -10,6 +10,7 @@ mod linear;
 mod linear_damage;
 mod maker;
 pub mod node;
+mod numbers;
 mod object;
 mod openings;
 pub mod rng;
@@ -21,7 +22,7 @@ mod templates_damage;
 mod text;
 mod tree;
 
-use maker::spare_maker;
+use maker::{spare_maker, Maker};
 use node::{Card, Record};
 pub use rng::Rng;
 
@@ -30,15 +31,17 @@ pub fn dump(rng: &mut Rng) -> Vec<u8> {
     if rng.chance(33) {
         return card::valid(rng).encode();
     }
-    match rng.below(61) {
+    match rng.below(71) {
         0..=11 => damaged_tree(rng),
         12..=28 => card::flawed(rng).encode(),
         29..=34 => damaged_bytes(rng),
         35..=40 => damaged_frames(rng),
         41 => damaged_fill(rng),
         42..=47 => damaged_records(rng),
-        48..=51 => damaged_value(rng),
-        52..=59 => damaged_templates(rng),
+        48..=51 => damaged_value(rng, tree::damage_value),
+        52..=57 => damaged_value(rng, tree::damage_number),
+        58..=61 => card::flawed_numbers(rng).encode(),
+        62..=69 => damaged_templates(rng),
         _ => full::full(rng).encode(),
     }
 }
@@ -60,10 +63,10 @@ fn damage_tree(rng: &mut Rng, card: &mut Card) {
     tree::damage(&mut spare_maker(rng), card);
 }
 
-/// A card with a value in a bad form, all enclosing lengths repaired.
-fn damaged_value(rng: &mut Rng) -> Vec<u8> {
+/// A card with one value damaged in this way, all enclosing lengths repaired.
+fn damaged_value(rng: &mut Rng, damage: fn(&mut Maker, &mut Card)) -> Vec<u8> {
     let mut card = card::valid(rng);
-    tree::damage_value(&mut spare_maker(rng), &mut card);
+    damage(&mut spare_maker(rng), &mut card);
     card.encode()
 }
 
@@ -156,6 +159,10 @@ pub fn damaged_book(rng: &mut Rng, book: &[u8]) -> Vec<u8> {
     let texts = node::places(&all, &text::KINDS);
     if !texts.is_empty() && rng.chance(6) {
         all[rng.pick(&texts)].payload = text::at_the_bound(rng);
+        return node::join(&all);
+    }
+    if rng.chance(12) {
+        numbers::damage(rng, &mut all);
         return node::join(&all);
     }
     if rng.chance(70) {

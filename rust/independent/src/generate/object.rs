@@ -80,8 +80,8 @@ impl Maker<'_> {
         if self.option(25, &[Flaw::Flags]) {
             parts.push(self.flags(0x03));
         }
-        if self.option(25, &[Flaw::Integer]) {
-            parts.push(self.integer(0x02, 0, 255));
+        if self.option(35, &[Flaw::Integer, Flaw::KeyReference]) {
+            parts.push(self.key_reference());
         }
         if self.option(25, &[Flaw::Time]) {
             parts.push(self.time(0x18));

@@ -8,6 +8,8 @@ use crate::write::element::{flag_contents, integer_contents};
 
 /// The tags that tell what a value may be.
 const VALUES: [u8; 9] = [0x01, 0x02, 0x03, 0x05, 0x0A, 0x0C, 0x18, 0x50, 0x80];
+/// Those that a number has; a context tag may be something else, too.
+const NUMBERS: [u8; 3] = [0x02, 0x0A, 0x80];
 
 /// Damages one element of the card.
 pub fn damage(maker: &mut Maker, card: &mut Card) {
@@ -73,7 +75,7 @@ fn other_tag(maker: &mut Maker, old: &[u8]) -> Vec<u8> {
 
 /// Gives a leaf a value at or over an edge, if its tag tells what it may be.
 fn other_value(maker: &mut Maker, node: &mut Node) {
-    let numbers = [0, 3, 5, 9, 65, 256, 32_768, 65_536];
+    let numbers = [-129, -128, -127, -1, 0, 3, 5, 9, 65, 256, 32_768, 65_536];
     let contents = match node.tag[0] {
         0x01 => vec![maker.rng.pick(&[0x00, 0x01, 0xFF])],
         0x02 | 0x0A | 0x80 => integer_contents(maker.rng.pick(&numbers)),
@@ -123,11 +125,21 @@ fn odd_length(maker: &mut Maker, length: usize) -> Vec<u8> {
     }
 }
 
-/// Gives one value of the card a bad form; its tag is chosen first, so that rare ones have their turn.
+/// Gives one value of the card a bad form.
 pub fn damage_value(maker: &mut Maker, card: &mut Card) {
+    replace(maker, card, &VALUES, bad_value);
+}
+
+/// Gives one number of the card another value, mostly one that it may not have.
+pub fn damage_number(maker: &mut Maker, card: &mut Card) {
+    replace(maker, card, &NUMBERS, |maker, _| maker.other_number());
+}
+
+/// Gives one value with one of these tags other contents; its tag is chosen first, so that rare ones have their turn.
+fn replace(maker: &mut Maker, card: &mut Card, wanted: &[u8], contents: fn(&mut Maker, u8) -> Vec<u8>) {
     let mut found = Vec::new();
     for file in card.all_parts() {
-        file.nodes.iter_mut().for_each(|node| values(node, &mut found));
+        file.nodes.iter_mut().for_each(|node| values(node, wanted, &mut found));
     }
     let mut tags: Vec<u8> = found.iter().map(|node| node.tag[0]).collect();
     tags.sort();
@@ -135,21 +147,21 @@ pub fn damage_value(maker: &mut Maker, card: &mut Card) {
     let tag = maker.rng.pick(&tags);
     found.retain(|node| node.tag[0] == tag);
     let at = maker.rng.below(found.len());
-    found[at].body = Body::Bytes(bad_value(maker, tag));
+    found[at].body = Body::Bytes(contents(maker, tag));
 }
 
 /// The values in this element, or itself if it is one; some are in sealed parts, where no form is looked at.
-fn values<'n>(node: &'n mut Node, found: &mut Vec<&'n mut Node>) {
+fn values<'n>(node: &'n mut Node, wanted: &[u8], found: &mut Vec<&'n mut Node>) {
     match node.body {
-        Body::Bytes(_) if VALUES.contains(&node.tag[0]) => found.push(node),
+        Body::Bytes(_) if wanted.contains(&node.tag[0]) => found.push(node),
         Body::Bytes(_) => {}
-        Body::Parts(ref mut parts) => parts.iter_mut().for_each(|part| values(part, found)),
+        Body::Parts(ref mut parts) => parts.iter_mut().for_each(|part| values(part, wanted, found)),
     }
 }
 
 /// A value in a bad form, or what may be a default.
 fn bad_value(maker: &mut Maker, tag: u8) -> Vec<u8> {
-    let number = maker.rng.pick(&[0, 1, 4, 127, 255, 65_536]);
+    let number = maker.rng.pick(&[0, 1, 4, 127, 255, 65_536, -1, -127, -128, -129]);
     match (tag, maker.rng.below(4)) {
         (0x01, 0) => vec![maker.rng.pick(&[0x00, 0xFF])],
         (0x01, _) => maker.bad_boolean(),

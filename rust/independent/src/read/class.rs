@@ -27,8 +27,9 @@ impl Reader<'_> {
         if let Some(access_flags) = inside.optional(0x03)? {
             self.flags(access_flags, 0x0133)?;
         }
+        // "For keyReference the bounds become minus 128 to 255"
         if let Some(key_reference) = inside.optional(0x02)? {
-            self.integer(key_reference, 0x0134, 0, 255)?;
+            self.integer(key_reference, 0x0134, -128, 255)?;
         }
         if let Some(start_date) = inside.optional(0x18)? {
             self.time(start_date, 0x0135)?;

@@ -15,9 +15,10 @@ impl<'a> Reader<'a> {
         self.record(kind, &number.to_le_bytes());
     }
 
-    pub fn integer(&mut self, it: Element, kind: u16, low: u32, high: u32) -> Result<u32, Refusal> {
+    /// A negative number is recorded as "the two's complement in four bytes", its value modulo 2^32.
+    pub fn integer(&mut self, it: Element, kind: u16, low: i64, high: i64) -> Result<i64, Refusal> {
         let value = values::integer(it.contents(self.dump), low, high).map_err(|no| (no, it.at))?;
-        self.number(kind, value);
+        self.number(kind, value as u32);
         Ok(value)
     }
 

@@ -12,24 +12,28 @@ pub fn boolean(contents: &[u8]) -> Result<bool, u32> {
     }
 }
 
-/// "INTEGER and ENUMERATED are shortest; a negative one is 7."
-pub fn integer(contents: &[u8], low: u32, high: u32) -> Result<u32, u32> {
+/// "The integer reader should give a signed value and every component should then state its own bounds."
+pub fn integer(contents: &[u8], low: i64, high: i64) -> Result<i64, u32> {
+    let value = signed(contents)?;
+    if value < low || value > high {
+        Err(RANGE)
+    } else {
+        Ok(value)
+    }
+}
+
+/// "INTEGER and ENUMERATED are shortest." A number that is too long for 64 bits ends up near their end, far from all
+/// bounds.
+fn signed(contents: &[u8]) -> Result<i64, u32> {
     match contents {
-        [] => return Err(INTEGER),
-        [0x00, second, ..] if *second < 0x80 => return Err(INTEGER),
-        [0xFF, second, ..] if *second >= 0x80 => return Err(INTEGER),
-        [first, ..] if *first >= 0x80 => return Err(RANGE),
-        _ => {}
+        [] => Err(INTEGER),
+        [0x00, second, ..] if *second < 0x80 => Err(INTEGER),
+        [0xFF, second, ..] if *second >= 0x80 => Err(INTEGER),
+        [first, rest @ ..] => {
+            let highest = i64::from(*first as i8);
+            Ok(rest.iter().fold(highest, |value, byte| value.saturating_mul(256).saturating_add(i64::from(*byte))))
+        }
     }
-    // No bound needs more than four bytes and a leading 00.
-    if contents.len() > 5 {
-        return Err(RANGE);
-    }
-    let value = contents.iter().fold(0u64, |value, byte| value * 256 + u64::from(*byte));
-    if value < u64::from(low) || value > u64::from(high) {
-        return Err(RANGE);
-    }
-    Ok(value as u32)
 }
 
 /// "Named-bit strings: unused bits zero, trailing zero bits removed (none set is 03 01 00), at most 32 bits;

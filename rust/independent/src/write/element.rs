@@ -23,8 +23,10 @@ pub fn octets(tag: u8, contents: &[u8]) -> Vec<u8> {
     element(tag, contents)
 }
 
-pub fn integer(tag: u8, value: u32) -> Vec<u8> {
-    element(tag, &integer_contents(value))
+/// A number record as an INTEGER or ENUMERATED: its four bytes are a two's complement, whatever the component. A
+/// negative number where there may be none is refused by the reader.
+pub fn integer(tag: u8, number: u32) -> Vec<u8> {
+    element(tag, &integer_contents(i64::from(number as i32)))
 }
 
 pub fn flags(tag: u8, value: u32) -> Vec<u8> {
@@ -39,17 +41,12 @@ pub fn boolean(tag: u8, payload: &[u8]) -> Vec<u8> {
     }
 }
 
-/// The shortest form of a number that is not negative.
-pub fn integer_contents(value: u32) -> Vec<u8> {
+/// The shortest form of a number: its two's complement without the bytes that only repeat the sign of the next.
+pub fn integer_contents(value: i64) -> Vec<u8> {
     let bytes = value.to_be_bytes();
-    let leading = bytes.iter().take(3).take_while(|byte| **byte == 0).count();
-    let shortest = &bytes[leading..];
-    // a first byte from 80 would make it negative
-    if shortest[0] >= 0x80 {
-        [&[0], shortest].concat()
-    } else {
-        shortest.to_vec()
-    }
+    let repeats = |pair: &&[u8]| matches!(pair, [0x00, 0x00..=0x7F] | [0xFF, 0x80..=0xFF]);
+    let leading = bytes.windows(2).take_while(repeats).count();
+    bytes[leading..].to_vec()
 }
 
 /// The unused bits' count and the bits up to the last one set; bit i is the number's 2^i.

@@ -1,6 +1,8 @@
 //! Small helps to write dumps down, and to say what they come to.
 #![allow(dead_code)]
 
+pub mod components;
+
 use independent::{read, write};
 
 /// The dump is refused with this number, at this place.
@@ -75,6 +77,11 @@ pub fn filed(entry: u8, file: &[u8]) -> Vec<u8> {
 /// An EF.DIR, whose file starts at 4, that CIAInfo and an empty EF.OD: 16 bytes behind the file.
 pub fn with_dir(file: &[u8]) -> Vec<u8> {
     [record(5, file), with_od(&[])].concat()
+}
+
+/// A template that is not ours, of a 4F of three bytes and a 73: 4 the template, 6 the 4F, 9 the 73, 11 its first part.
+pub fn with_73(parts: &[Vec<u8>]) -> Vec<u8> {
+    with_dir(&tlv(0x61, &[hex("4F0101"), tlv(0x73, parts)]))
 }
 
 /// One record of a record file.

@@ -8,7 +8,7 @@ put-value-spec =
     tie.close (tie.spec
     (λ c. search needs)  -- enum-told
     (λ c κs. search needs)  -- number-at-requires
-    (λ c κs. search needs)  -- put-integer-requires
+    (λ c κs. search needs)  -- put-twos-requires
     (λ c. search needs)  -- enum-told-2
     (λ c κs. search needs)  -- number-at-requires-2
     (λ c κs. search needs)  -- put-flags-requires

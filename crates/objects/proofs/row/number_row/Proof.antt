@@ -9,6 +9,7 @@ number-row-spec =
     (λ c κs. search needs)  -- is-default-requires
     (λ c. search (number-default, number-out, number-put, needs))  -- returns
     (λ c κs. search needs)  -- in-bounds-requires
+    (λ c κs. search needs)  -- twos-requires
     (λ c κs. search needs)  -- put-number-requires
     (λ c. search needs)  -- same-length
     (λ c. search (number-default, number-out, number-put, needs))  -- returns-2

@@ -8,7 +8,7 @@ use Rattle.rules.specs.declared.table.Sequence.{Sequence}
 use Rattle.rules.specs.declared.table.Sequence.the-variants.{Info, Common, Rule, Key, CertificateAttributes, Authentication, PrivateKeyAttributes, PasswordAttributes, Path, Template, Discretionary, OdfPath, InfoPath}
 use Rattle.rules.specs.declared.table.Row.{Row}
 use Rattle.rules.specs.declared.rows.Line.{Line}
-use Rattle.rules.specs.Parts.{row}
+use Rattle.rules.specs.Parts.{between, row}
 use Rattle.rules.specs.Tables.{rowsOf, noRow}
 use Rattle.rules.proofs.KeptLaws.{few}
 use Rattle.rules.proofs.rows.row_of.Statement.{statement}
@@ -21,7 +21,7 @@ inside : (x : Sequence) {q : Sequence} {i : ℕ} → q ≡ x → i < length (row
 inside x e h = rw e at h
 
 abbrev of : Line → Row
-of l = row (l .0) (l .1) (l .2) (l .3) (l .4) (l .5)
+of l = row (l .0) (l .1) (l .2) (l .3) (between (l .4) (l .5))
 
 abbrev line : Row → Line
 line r = (r .tag, r .kind, r .form, r .need, r .low, r .high)
