@@ -67,17 +67,19 @@ fn edges() {
 #[test]
 fn out_of_bounds() {
     // -129, -255, -256, -32,768; 256, 384, 385, 32,767
-    for over in ["FF7F", "FF01", "FF00", "8000", "0100", "0180", "0181", "7FFF"] {
-        all_refused(key_references(over), 7);
-    }
+    each_refused(key_references, &["FF7F", "FF01", "FF00", "8000", "0100", "0180", "0181", "7FFF"], 7);
     // the last two, three, four, eight bytes are those of -127
-    for over in ["00FF81", "00FFFF81", "00FFFFFF81", "80FFFFFF81", "FEFFFFFF81", "00FFFFFFFFFFFFFF81"] {
-        all_refused(key_references(over), 7);
-    }
+    each_refused(
+        key_references,
+        &["00FF81", "00FFFF81", "00FFFFFF81", "80FFFFFF81", "FEFFFFFF81", "00FFFFFFFFFFFFFF81"],
+        7,
+    );
     // and those of 129
-    for over in ["FF0081", "FF000081", "FF00000081", "0100000081", "8000000081", "FF0000000000000081"] {
-        all_refused(key_references(over), 7);
-    }
+    each_refused(
+        key_references,
+        &["FF0081", "FF000081", "FF00000081", "0100000081", "8000000081", "FF0000000000000081"],
+        7,
+    );
     // -2^31, 2^31, -2^63, 2^63, -2^127 and 2^127 - 127
     let long = ["80000000", "0080000000", "8000000000000000", "008000000000000000"];
     let longer = ["80000000000000000000000000000000", "7FFFFFFFFFFFFFFFFFFFFFFFFFFFFF81"];
@@ -89,34 +91,26 @@ fn out_of_bounds() {
 #[test]
 fn form_before_bounds() {
     // -1, -127 and -128 with one byte too many, with more
-    for bad in ["FFFF", "FF81", "FF80", "FFFFFF", "FFFFFF81", "FFFFFFFF81", "FFFFFFFFFFFFFFFF80"] {
-        all_refused(integers(bad), 62);
-    }
+    each_refused(integers, &["FFFF", "FF81", "FF80", "FFFFFF", "FFFFFF81", "FFFFFFFF81", "FFFFFFFFFFFFFFFF80"], 62);
     // 129 and 0 with one byte too many
-    for bad in ["000081", "00000081", "0000000081", "0000", ""] {
-        all_refused(integers(bad), 62);
-    }
+    each_refused(integers, &["000081", "00000081", "0000000081", "0000", ""], 62);
     // out of bounds too: -129, -256, -2^31, and those that look like -127 and 129
-    for both in ["FFFF7F", "FFFF00", "FF80000000", "0000FFFFFF81", "FFFF00000081", "000100000081"] {
-        all_refused(integers(both), 62);
-    }
+    each_refused(integers, &["FFFF7F", "FFFF00", "FF80000000", "0000FFFFFF81", "FFFF00000081", "000100000081"], 62);
 }
 
 #[test]
 fn every_other_number() {
     all_accepted(other_integers("04"));
     // -1, -2, -4, -127, -128, -129, -256, -32,768
-    for negative in ["FF", "FE", "FC", "81", "80", "FF7F", "FF00", "8000"] {
-        all_refused(other_integers(negative), 7);
-    }
+    each_refused(other_integers, &["FF", "FE", "FC", "81", "80", "FF7F", "FF00", "8000"], 7);
     // the last four or eight bytes are those of 4, or the number is as low as can be
-    for negative in ["FF00000004", "8000000004", "FF0000000000000004", "80000000", "8000000000000000"] {
-        all_refused(other_integers(negative), 7);
-    }
+    each_refused(
+        other_integers,
+        &["FF00000004", "8000000004", "FF0000000000000004", "80000000", "8000000000000000"],
+        7,
+    );
     // too large
-    for over in ["0100000004", "010000000000000004", "00FFFFFFFF", "00FFFFFFFFFFFFFFFF"] {
-        all_refused(other_integers(over), 7);
-    }
+    each_refused(other_integers, &["0100000004", "010000000000000004", "00FFFFFFFF", "00FFFFFFFFFFFFFFFF"], 7);
 }
 
 #[test]

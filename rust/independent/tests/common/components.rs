@@ -21,6 +21,13 @@ pub fn all_refused(cases: Vec<Case>, number: u32) {
     }
 }
 
+/// Each of these contents is refused with this number, at each component that can have it.
+pub fn each_refused(components: fn(&str) -> Vec<Case>, contents: &[&str], number: u32) {
+    for one in contents {
+        all_refused(components(one), number);
+    }
+}
+
 pub fn all_accepted(cases: Vec<Case>) {
     for (dump, _) in cases {
         accepted(&dump);
