@@ -7,3 +7,4 @@ pub mod IntegerLoop
 pub mod PutLoops
 pub mod KeyLaws
 pub mod ScanLaws
+pub mod CharLaws

@@ -12,6 +12,7 @@ pub mod Integer
 pub mod Told
 pub mod Bits
 pub mod Text
+pub mod Utf8
 pub mod Time
 pub mod Values
 pub mod Length
@@ -29,6 +30,7 @@ pub mod FlagLaws
 pub mod PutLaws
 pub mod RecordLaws
 pub mod TextLaws
+pub mod Utf8Laws
 pub mod CharacterLaws
 pub mod TimeLaws
 pub mod ValueLaws

@@ -8,9 +8,17 @@ use Rattle.elements.specs.Told.{told}
 use Rattle.elements.specs.declared.fault.Fault.the-variants.{BadText}
 use Rattle.elements.specs.declared.answer.Value.{Value}
 use Rattle.elements.specs.declared.answer.Value.the-variants.{Wrong}
-use Rattle.elements.specs.declared.text.Due.{Due}
-use Rattle.elements.specs.declared.text.Next.{Next}
-use Rattle.elements.specs.declared.text.Next.the-variants.{Then, Never}
+
+-- what is due inside a character: so many bytes more, the next of them from low to high
+pub record Due : Type 0 where
+  pub more : ℕ
+  pub low : ℕ
+  pub high : ℕ
+
+-- what a byte leaves due, or that it may not stand there
+pub data Next : Type 0 where
+  Then : Due → Next
+  Never : Next
 
 -- so many bytes more of a character, the next of them from l to h
 abbrev pub due : ℕ → ℕ → ℕ → Due

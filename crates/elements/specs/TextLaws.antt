@@ -17,10 +17,7 @@ use Rattle.elements.specs.Encodings.{Scalar, below, above, Scalars, none
 use Rattle.elements.specs.declared.fault.Fault.the-variants.{BadText}
 use Rattle.elements.specs.declared.answer.Value.{Value}
 use Rattle.elements.specs.declared.answer.Value.the-variants.{Of, Wrong}
-use Rattle.elements.specs.Text.{due, Row, row, rows, find, leadOf, stepOf, starts, textFrom, text}
-use Rattle.elements.specs.declared.text.Due.{Due}
-use Rattle.elements.specs.declared.text.Next.{Next}
-use Rattle.elements.specs.declared.text.Next.the-variants.{Then, Never}
+use Rattle.elements.specs.Text.{Due, Next, Then, Never, due, Row, row, rows, find, leadOf, stepOf, starts, textFrom, text}
 
 -- ---- the alternatives of a first byte
 -- no row begins or ends inside m to n
@@ -28,14 +25,14 @@ abbrev pub level : List Row → ℕ → ℕ → Bool
 level [] m n = true
 level (row l h d ∷ r) m n = (leb l m || ltb n l) && ((ltb h m || leb n h) && level r m n)
 
-lower : (l m n b : ℕ) → T (leb l m || ltb n l) → m ≤ b → b ≤ n → leb l b ≡ leb l m
+pub lower : (l m n b : ℕ) → T (leb l m || ltb n l) → m ≤ b → b ≤ n → leb l b ≡ leb l m
 lower l m n b h p q = go (leb l m) refl h
   where
     go : (t : Bool) → leb l m ≡ t → T (t || ltb n l) → leb l b ≡ t
     go true e u = le-leb l b (omega (arith, leb-true l m e))
     go false e u = lt-leb l b (omega (arith, ltb→lt n l u))
 
-upper : (h m n b : ℕ) → T (ltb h m || leb n h) → m ≤ b → b ≤ n → leb b h ≡ leb m h
+pub upper : (h m n b : ℕ) → T (ltb h m || leb n h) → m ≤ b → b ≤ n → leb b h ≡ leb m h
 upper h m n b w p q = go (ltb h m) refl w
   where
     go : (t : Bool) → ltb h m ≡ t → T (t || leb n h) → leb b h ≡ leb m h
@@ -64,12 +61,12 @@ data Char : List ℕ → Type 0 where
   char : {b k l h : ℕ} {bs : List ℕ} → leadOf b ≡ Then (due k l h) → Tails k l h bs → Char (b ∷ bs)
 
 -- where nothing is due, what the next byte would have to be does not matter
-rests : (l h n : ℕ) (r : List ℕ) → textFrom (due 0 l h) n r ≡ textFrom (due 0 0 0) n r
+pub rests : (l h n : ℕ) (r : List ℕ) → textFrom (due 0 l h) n r ≡ textFrom (due 0 0 0) n r
 unfolding textFrom stepOf starts
 rests l h n [] = refl
 rests l h n (b ∷ r) = refl
 
-due-step : (k l h x : ℕ) → l ≤ x → x ≤ h → stepOf (due (suc k) l h) x ≡ Then (due k 0x80 0xbf)
+pub due-step : (k l h x : ℕ) → l ≤ x → x ≤ h → stepOf (due (suc k) l h) x ≡ Then (due k 0x80 0xbf)
 unfolding stepOf
 due-step k l h x p q = let e : suc k - 1 ≡ k = omega arith in rw (ne-eqb (suc k) 0 (omega arith), le-ltb x l p, le-ltb h x q, e)
 

@@ -10,9 +10,6 @@ use Rattle.elements.specs.declared.answer.Form.{Form}
 use Rattle.elements.specs.declared.answer.Form.the-variants as form
 use Rattle.elements.specs.declared.answer.Value.{Value}
 use Rattle.elements.specs.declared.answer.Value.the-variants.{Of, Wrong}
-use Rattle.elements.specs.declared.text.Due.{Due}
-use Rattle.elements.specs.declared.text.Next.{Next}
-use Rattle.elements.specs.declared.text.Next.the-variants.{Then, Never}
 use Rattle.elements.specs.Choice.{pick}
 use Rattle.elements.specs.ChoiceLaws.{by-pick}
 use Rattle.elements.specs.Faults.{numberOf}
@@ -21,7 +18,7 @@ use Rattle.elements.specs.Told.{told}
 use Rattle.elements.specs.Boolean.{boolean}
 use Rattle.elements.specs.Integer.{magnitude, whole, integer}
 use Rattle.elements.specs.Bits.{bitsOf, bits}
-use Rattle.elements.specs.Text.{stepOf, starts, textFrom, text}
+use Rattle.elements.specs.Text.{Due, Next, Then, Never, stepOf, starts, textFrom, text}
 use Rattle.elements.specs.Time.{time}
 use Rattle.elements.specs.Values.{null, value}
 
