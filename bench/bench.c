@@ -8,7 +8,8 @@
 static uint8_t dump[65536], book[131072], back[32768], copy[32768];
 static uint32_t rows[65536];
 static size_t dump_len;
-static uint64_t book_len, told, length;
+static uint64_t book_len, told, length, last_row;
+static uint32_t answer, kind;
 static volatile uint64_t sink;
 
 /* every tag and length from a to e, constructed ones inside */
@@ -45,6 +46,7 @@ static void do_read(void) { sink += adarbukoi_read(dump, dump_len, book, sizeof 
 static void do_write(void) { sink += adarbukoi_write(book, book_len, back, sizeof back, &told); }
 static void do_list(void) { sink += adarbukoi_list(book, book_len, rows, 65536, &told); }
 static void do_field(void) { sink += adarbukoi_field(book, book_len, 0, 0x0130, &told, &length); }
+static void do_why(void) { sink += adarbukoi_why(book, book_len, last_row, &answer, &told, &kind); }
 
 static double now(void) {
     struct timespec t;
@@ -73,8 +75,8 @@ static double best(void (*f)(void)) {
 }
 
 int main(int argc, char **argv) {
-    printf("| card | bytes | book | rows | memcpy | plain walk | read | write | list | field | read/walk | write/walk | list/walk |\n");
-    printf("|---|---|---|---|---|---|---|---|---|---|---|---|---|\n");
+    printf("| card | bytes | book | rows | memcpy | plain walk | read | write | list | field | why | read/walk | write/walk | list/walk |\n");
+    printf("|---|---|---|---|---|---|---|---|---|---|---|---|---|---|\n");
     for (int i = 1; i < argc; i++) {
         FILE *f = fopen(argv[i], "rb");
         if (!f) { perror(argv[i]); return 2; }
@@ -83,9 +85,10 @@ int main(int argc, char **argv) {
         if (adarbukoi_read(dump, dump_len, book, sizeof book, &book_len)) { fprintf(stderr, "%s is refused\n", argv[i]); return 1; }
         uint64_t numbers;
         if (adarbukoi_list(book, book_len, rows, 65536, &numbers)) return 1;
-        double c = best(do_copy), w = best(do_walk), r = best(do_read), x = best(do_write), l = best(do_list), d = best(do_field);
+        last_row = numbers / 4 - 1;
+        double c = best(do_copy), w = best(do_walk), r = best(do_read), x = best(do_write), l = best(do_list), d = best(do_field), y = best(do_why);
         const char *name = strrchr(argv[i], '/') ? strrchr(argv[i], '/') + 1 : argv[i];
-        printf("| %s | %zu | %llu | %llu | %.0f | %.0f | %.0f | %.0f | %.0f | %.0f | %.1f | %.1f | %.1f |\n", name, dump_len, (unsigned long long)book_len, (unsigned long long)numbers / 4, c, w, r, x, l, d, r / w, x / w, l / w);
+        printf("| %s | %zu | %llu | %llu | %.0f | %.0f | %.0f | %.0f | %.0f | %.0f | %.0f | %.1f | %.1f | %.1f |\n", name, dump_len, (unsigned long long)book_len, (unsigned long long)numbers / 4, c, w, r, x, l, d, y, r / w, x / w, l / w);
     }
     return 0;
 }

@@ -51,7 +51,7 @@ enum {
     ADARBUKOI_TWICE = 13,   /* two authentication objects with equal own authId */
     ADARBUKOI_ROOM = 14,    /* the lent output is too short */
     ADARBUKOI_BOOK = 15,    /* no accepted dump has this book */
-    ADARBUKOI_NONE = 16,    /* the object or field is not there */
+    ADARBUKOI_NONE = 16,    /* the object, field or row is not there */
     ADARBUKOI_SECOND = 17,  /* a record of a record file holds a second object */
 
     /* what is wrong with a value, 61 to 68; of several at one element the first is told */
@@ -163,6 +163,20 @@ uint32_t adarbukoi_list(const uint8_t *book, size_t book_len, uint32_t *rows, si
 /* Where an object's first record of a kind (ADARBUKOI_LABEL ..) is. Accepted: *offset_or_place is its payload's book offset and
  * *length its length; on a refusal *length is what it was. Refuses BOOK, then NONE. */
 uint32_t adarbukoi_field(const uint8_t *book, size_t book_len, uint32_t object, uint32_t kind, uint64_t *offset_or_place, uint64_t *length);
+
+/* Why a row of the list is as it is. */
+enum {
+    ADARBUKOI_MET = 1,       /* the link is answered: where that row's answering object bears the identifier */
+    ADARBUKOI_NO_OBJECT = 2, /* the book has no object of the class that answers the link */
+    ADARBUKOI_ELSEWHERE = 3, /* the identifier stands in a record that does not state a link of the same number: the first one */
+    ADARBUKOI_NOWHERE = 4    /* it stands in no such record */
+};
+
+/* Why row number `row`, from 0, of a book's list is as it is. Accepted: *answer is ADARBUKOI_MET .. ADARBUKOI_NOWHERE; for MET
+ * and ELSEWHERE *offset_or_place is a record's book offset and *kind its kind (ADARBUKOI_AUTH_ID, _IDENTIFIER, _KEY_ID,
+ * _CERTIFICATE_ID or _OWN_AUTH_ID), for the others both are 0. On a refusal *answer and *kind are what they were. Refuses BOOK,
+ * then NONE where the list has no such row. */
+uint32_t adarbukoi_why(const uint8_t *book, size_t book_len, uint64_t row, uint32_t *answer, uint64_t *offset_or_place, uint32_t *kind);
 
 #ifdef __cplusplus
 }

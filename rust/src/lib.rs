@@ -5,8 +5,10 @@
 
 pub mod raw;
 mod refusal;
+mod why;
 
 pub use refusal::Refusal;
+pub use why::{why, Why};
 
 /// Accepted with a number, or a refusal with its place in that number's stead.
 fn answer(number: u32, told: u64) -> Result<usize, Refusal> {

@@ -1,4 +1,4 @@
-//! The four C functions as the static library has them. Each answers 0 for accepted or a refusal's number.
+//! The five C functions as the static library has them. Each answers 0 for accepted or a refusal's number.
 
 use core::ffi::c_uchar;
 
@@ -34,5 +34,14 @@ extern "C" {
         kind: u32,
         offset_or_place: *mut u64,
         length: *mut u64,
+    ) -> u32;
+
+    pub fn adarbukoi_why(
+        book: *const c_uchar,
+        book_len: usize,
+        row: u64,
+        answer: *mut u32,
+        offset_or_place: *mut u64,
+        kind: *mut u32,
     ) -> u32;
 }

@@ -62,7 +62,7 @@ fn words(number: u32) -> (&'static str, &'static str) {
         13 => ("twice", "two authentication objects with equal own authId"),
         14 => ("room", "output too short, the place is the size needed"),
         15 => ("book", "no accepted dump has this book"),
-        16 => ("none", "object or field not there"),
+        16 => ("none", "object, field or row not there"),
         17 => ("second", "a record holds a second object"),
         _ => ("unknown", "no refusal of documents 01 and 02"),
     }

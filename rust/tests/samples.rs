@@ -1,9 +1,11 @@
 //! Sample cards through the proved library.
 
-use adarbukoi::{field, list, read, write, Refusal};
+use adarbukoi::{field, list, read, why, write, Refusal, Why};
 
 const ANNEX_E2: &[u8] = include_bytes!("../../samples/annex-e2.dump");
+const FOUR_ANSWERS: &[u8] = include_bytes!("../../samples/four-answers.dump");
 const RECORD_FILES: &[u8] = include_bytes!("../../samples/record-files.dump");
+const SHARED: &[u8] = include_bytes!("../../samples/shared.dump");
 const TWO_APPLICATIONS: &[u8] = include_bytes!("../../samples/two-applications.dump");
 const TWO_SCRIPTS: &[u8] = include_bytes!("../../samples/two-scripts.dump");
 const TWO_SLOTS: &[u8] = include_bytes!("../../samples/two-slots.dump");
@@ -52,6 +54,31 @@ fn two_slots() {
     let book = book(TWO_SLOTS, 343, &[1, 0, 88, 4, 3, 0, 93, 2, 1, 1, 160, 4, 3, 1, 165, 3]);
     assert_eq!(field(&book, 0, 0x0134), Ok(&(-127i32).to_le_bytes()[..]));
     assert_eq!(field(&book, 1, 0x0134), Ok(&129i32.to_le_bytes()[..]));
+}
+
+/// The rows of a book are as they are for these reasons, and there is no row behind them.
+fn whys(book: &[u8], due: &[Why]) {
+    for (row, reason) in (0..).zip(due) {
+        assert_eq!(why(book, row), Ok(*reason));
+    }
+    assert_eq!(why(book, due.len() as u64), Err(Refusal { number: 16, place: 0 }));
+    assert_eq!(why(&book[1..], 0), Err(Refusal { number: 15, place: 0 }));
+}
+
+/// The key's guard is the PIN's 0150 at 89; there is no certificate; the PIN's own guard, 02, is in no other record.
+#[test]
+fn shared_whys() {
+    let book = book(SHARED, 126, &[1, 0, 42, 1, 3, 0, 47, u32::MAX, 1, 1, 84, u32::MAX]);
+    whys(&book, &[Why::Met(89, 0x0150), Why::NoObject, Why::Nowhere]);
+}
+
+/// The key's guard is the PIN's 0150 at 130; there is no certificate; the PIN's own guard is the key's iD, at 69; the
+/// unblocking PIN's, 09, is in no other record.
+#[test]
+fn four_answers() {
+    let rows = [1, 0, 64, 1, 3, 0, 69, u32::MAX, 1, 1, 125, u32::MAX, 1, 2, 188, u32::MAX];
+    let book = book(FOUR_ANSWERS, 238, &rows);
+    whys(&book, &[Why::Met(130, 0x0150), Why::NoObject, Why::Elsewhere(69, 0x0130), Why::Nowhere]);
 }
 
 /// Its flags are 03 02 05 80 at 30; with 07 for 05 native, which is TRUE, is next, at 52.

@@ -9,6 +9,9 @@ use Rattle.layouts.specs.Service.{ReadTold, WriteTold, one-read, one-write}
 use Rattle.links.specs.declared.fields.Place.{Place}
 use Rattle.links.specs.declared.fields.Place.the-variants as place
 use Rattle.links.specs.Serving.{ListTold, PlaceTold, one-list, one-place}
+use Rattle.why.specs.declared.answer.Why.{Why}
+use Rattle.why.specs.declared.answer.Why.the-variants as why
+use Rattle.why.specs.Whys.{WhyTold, one-why}
 
 -- "each answering 0 for accepted or the refusal's number"
 abbrev pub codeOf : Outcome → ℕ
@@ -57,6 +60,48 @@ pub record FieldExported (b : List ℕ) (i k c n l m : ℕ) : Type 0 where
   pub served : PlaceTold b i k answer
   pub told : PlaceSaid answer c n l m
 
+-- "1 met, 2 no object of the class, 3 elsewhere, 4 nowhere"; on a refusal it is what it was
+abbrev pub answerIn : Why → ℕ → ℕ
+answerIn (why.Met p k) a = 1
+answerIn why.NoObject a = 2
+answerIn (why.Elsewhere p k) a = 3
+answerIn why.Nowhere a = 4
+answerIn (why.Refused f p) a = a
+
+abbrev pub whyCode : Why → ℕ
+whyCode (why.Met p k) = 0
+whyCode why.NoObject = 0
+whyCode (why.Elsewhere p k) = 0
+whyCode why.Nowhere = 0
+whyCode (why.Refused f p) = numberOf f
+
+-- "the offset, 0 where there is none, or the refusal's place"
+abbrev pub shownAt : Why → ℕ
+shownAt (why.Met p k) = p
+shownAt why.NoObject = 0
+shownAt (why.Elsewhere p k) = p
+shownAt why.Nowhere = 0
+shownAt (why.Refused f p) = p
+
+-- "the record's kind for 1 and 3, else 0"
+abbrev pub kindIn : Why → ℕ → ℕ
+kindIn (why.Met p k) l = k
+kindIn why.NoObject l = 0
+kindIn (why.Elsewhere p k) l = k
+kindIn why.Nowhere l = 0
+kindIn (why.Refused f p) l = l
+
+pub record WhySaid (r : Why) (c a b n l m : ℕ) : Type 0 where
+  pub code : c ≡ whyCode r
+  pub answer : b ≡ answerIn r a
+  pub offset : n ≡ shownAt r
+  pub kind : m ≡ kindIn r l
+
+pub record WhyExported (s : List ℕ) (row c a b n l m : ℕ) : Type 0 where
+  pub reason : Why
+  pub served : WhyTold s row reason
+  pub told : WhySaid reason c a b n l m
+
 -- any two results that a contract allows are equal, since the service's are
 one-exported : {service : Service} {s a b e : List ℕ} {c d n m : ℕ} → ((q r : Outcome) → service s a b q → service s a e r → (q ≡ r) × (b ≡ e)) → Exported service s a b c n → Exported service s a e d m → (b ≡ e) × (c ≡ d) × (n ≡ m)
 one-exported one h g =
@@ -80,3 +125,10 @@ one-field-exported {l = l} h g =
     let t = h .told in
     let u = g .told in
     (t .code ∙ ap fieldCode e ∙ sym (u .code), t .offset ∙ ap offsetIn e ∙ sym (u .offset), t .size ∙ ap (λ (z : Place). sizeIn z l) e ∙ sym (u .size))
+
+pub one-why-exported : {s : List ℕ} {row c d a b e n m l x y : ℕ} → WhyExported s row c a b n l x → WhyExported s row d a e m l y → (c ≡ d) × (b ≡ e) × (n ≡ m) × (x ≡ y)
+one-why-exported {a = a} {l = l} h g =
+    let e = one-why (h .served) (g .served) in
+    let t = h .told in
+    let u = g .told in
+    (t .code ∙ ap whyCode e ∙ sym (u .code), t .answer ∙ ap (λ (z : Why). answerIn z a) e ∙ sym (u .answer), t .offset ∙ ap shownAt e ∙ sym (u .offset), t .kind ∙ ap (λ (z : Why). kindIn z l) e ∙ sym (u .kind))

@@ -1,10 +1,11 @@
-// The four services for C and Rust: numbers, slices, and a number lent for the length or place.
+// The five services for C and Rust: numbers, slices, and a number lent for the length or place.
 use elements::number_of;
 use layouts::Outcome;
 use links::Place;
+use why::Why;
 ghost use Rattle.layouts.specs.Service.{ReadTold, WriteTold};
 ghost use Rattle.links.specs.Serving.{ListTold};
-ghost use Rattle.adarbukoi.specs.Exports.{Told, Exported, PlaceSaid, FieldExported};
+ghost use Rattle.adarbukoi.specs.Exports.{Told, Exported, PlaceSaid, FieldExported, WhySaid, WhyExported};
 
 // 0 with the length, or the refusal's number with its place.
 fn tell(r: Outcome, number: &mut u64) -> u32
@@ -75,4 +76,54 @@ pub extern "C" fn adarbukoi_field(
     ensures { λ c. ⌜ FieldExported (now (book .entry)) object kind c (now (offset .exit)) (now (size .entry)) (now (size .exit)) ⌝ }
 {
     place(links::field_place(book, object, kind), offset, size)
+}
+
+// An answer of why: 1 met, 2 no object of the class, 3 elsewhere, 4 nowhere; with the record's offset and kind, or 0 and 0.
+fn reason(r: Why, answer: &mut u32, offset: &mut u64, kind: &mut u32) -> u32
+    ensures { λ c. ⌜ WhySaid r c (now (answer .entry)) (now (answer .exit)) (now (offset .exit)) (now (kind .entry)) (now (kind .exit)) ⌝ }
+{
+    match r {
+        Why::Met(p, k) => {
+            *answer = 1;
+            *offset = p as u64;
+            *kind = k;
+            0
+        }
+        Why::NoObject => {
+            *answer = 2;
+            *offset = 0;
+            *kind = 0;
+            0
+        }
+        Why::Elsewhere(p, k) => {
+            *answer = 3;
+            *offset = p as u64;
+            *kind = k;
+            0
+        }
+        Why::Nowhere => {
+            *answer = 4;
+            *offset = 0;
+            *kind = 0;
+            0
+        }
+        Why::Refused(f, p) => {
+            *offset = p as u64;
+            number_of(f)
+        }
+    }
+}
+
+// Why a row of a book's list is as it is; on a refusal answer and kind stay.
+#[no_mangle]
+pub extern "C" fn adarbukoi_why(
+    book: &[u8],
+    row: u64,
+    answer: &mut u32,
+    offset: &mut u64,
+    kind: &mut u32,
+) -> u32
+    ensures { λ c. ⌜ WhyExported (now (book .entry)) row c (now (answer .entry)) (now (answer .exit)) (now (offset .exit)) (now (kind .entry)) (now (kind .exit)) ⌝ }
+{
+    reason(why::why(book, row as usize), answer, offset, kind)
 }

@@ -5,6 +5,7 @@ use crate::show;
 use elements::Fault;
 use layouts::Outcome;
 use links::Place;
+use why::Why;
 ghost use Prim.Native.Nat.{_+_, _≤_};
 ghost use lib.ListN.{length};
 
@@ -184,6 +185,39 @@ pub fn field_of_dump(d: &[u8], object: u32, kind: u32) {
                 return show::word(b"BOOK LONGER THAN THE SLICE");
             }
             field(&space[0..n], object, kind);
+        }
+    }
+}
+
+// A record that why shows.
+fn shown(name: &[u8], p: usize, kind: u32) {
+    show::word(name);
+    show::decimal(p);
+    show::word(b" ");
+    show::kind(kind);
+}
+
+// Why a row of a book's list is as it is.
+pub fn reason(b: &[u8], row: usize) {
+    match why::why(b, row) {
+        Why::Met(p, k) => shown(b"met ", p, k),
+        Why::NoObject => show::word(b"no object of the class"),
+        Why::Elsewhere(p, k) => shown(b"elsewhere ", p, k),
+        Why::Nowhere => show::word(b"nowhere"),
+        Why::Refused(f, p) => show::refused(f, p),
+    }
+}
+
+// The same of a dump's book.
+pub fn reason_of_dump(d: &[u8], row: usize) {
+    let mut space = [0u8; 131072];
+    match layouts::read(d, &mut space) {
+        Outcome::Refused(f, place) => show::refused(f, place),
+        Outcome::Accepted(n) => {
+            if space.len() < n {
+                return show::word(b"BOOK LONGER THAN THE SLICE");
+            }
+            reason(&space[0..n], row);
         }
     }
 }

@@ -1,4 +1,4 @@
-// Runs the cases of `stdin` through the element layer and the four services, and prints each answer beside its case.
+// Runs the cases of `stdin` through the element layer and the five services, and prints each answer beside its case.
 mod book;
 mod dump;
 mod element;

@@ -172,6 +172,12 @@ fn served(line: &[u8], s: &[u8], n: usize)
     if starts(line, b"list") {
         return lend_numbers(s, n);
     }
+    if starts(line, b"why") {
+        return link::reason_of_dump(s, n);
+    }
+    if starts(line, b"whybook") {
+        return link::reason(s, n);
+    }
     if starts(line, b"spread") {
         if n == 0 {
             return bad();
@@ -270,6 +276,12 @@ fn numbered(line: &[u8]) -> bool {
         return true;
     }
     if starts(line, b"list") {
+        return true;
+    }
+    if starts(line, b"why") {
+        return true;
+    }
+    if starts(line, b"whybook") {
         return true;
     }
     starts(line, b"spread")

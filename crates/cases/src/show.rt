@@ -13,6 +13,10 @@ pub fn decimal(n: usize) {
     io::print_decimal(STDOUT_FILENO, n as u64);
 }
 
+pub fn kind(k: u32) {
+    io::print_hex(STDOUT_FILENO, k as u64, 4);
+}
+
 // A byte in hex.
 fn byte(b: u8) {
     io::print_hex(STDOUT_FILENO, b as u64, 2);

@@ -3,7 +3,7 @@ use Prim.Native.Nat.{ℕ, zero, suc, _+_, _-_, _<_, _≤_}
 use mathlib.Core.Path.{_≡_, refl, sym, _∙_}
 use mathlib.Core.List.{List, [], _∷_}
 use native.Mathlib.Omega.{arith}
-use lib.ListN.{length, getD, set, replicate, length-set, length-replicate, getD-replicate}
+use lib.ListN.{length, getD, set, length-set}
 use lib.Seq.{slice, length-slice, getD-set-other}
 use mir.Val.{Fits}
 use mir.Syntax.{w64}
@@ -26,10 +26,6 @@ module _ (b : List ℕ) (p e : ℕ) (h : e ≤ length b) where
   key-last l s =
       let k : e - 1 ≡ p + (length (slice p e b) - 1) = omega (arith, length-slice p e b h) in
       record { is = rw k (sym (byte-some b p e _ (omega (arith, length-slice p e b h)))); small = s }
-
--- as the array is made
-pub blank : Blank (replicate 384 255)
-blank = record { long = omega (arith, length-replicate {A = ℕ} 384 255); none = λ h l. getD-replicate 384 h 255 0 (omega arith) }
 
 -- the chains of no object
 pub chained-none : {b entries places chains : List ℕ} {n : ℕ} → Indexed b entries places n → Blank chains → Chained b chains n n

@@ -12,7 +12,7 @@ use Rattle.links.specs.declared.fields.Place.{Place}
 use Rattle.links.specs.declared.fields.Place.the-variants as place
 use Rattle.links.specs.Links.{objectsFrom, Found, none, firstOf, objectAt, fieldIn}
 use Rattle.links.specs.Finding.{Within, objectsAt, heldAt, objectThere, NextObject, FoundAt}
-use Rattle.links.proofs.ObjectLaws.{within-end}
+use Rattle.links.specs.FindingLaws.{within-end}
 use Rattle.links.specs.Serving.{placeOf, PlacedAt}
 
 -- the payload of what was found, or not

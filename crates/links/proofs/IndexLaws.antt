@@ -12,7 +12,7 @@ use borrow.Author.Tests.{eqb-true, eqb-false}
 use Rattle.rules.specs.Book.{Ends}
 use Rattle.links.specs.Links.{idKind, firstOf, chosen, objectAt}
 use Rattle.links.specs.Finding.{Within, objectsAt, heldAt, objectThere, NextObject, FoundAt, tagAt, idAt, Tagged, Placed, Indexed}
-use Rattle.links.proofs.ObjectLaws.{within-end}
+use Rattle.links.specs.FindingLaws.{within-end}
 
 -- what is read after a store: what was stored, or what was there
 pub by-set : (P : ℕ → Type 0) (l : List ℕ) (i v k : ℕ) → i < length l → (k ≡ i → P v) → ((k ≡ i → ⊥) → P (getD l k 0)) → P (getD (set l i v) k 0)

@@ -14,66 +14,65 @@ use Rattle.rules.specs.BookLaws.{from-few}
 use Rattle.rules.specs.Blocks.{closing}
 use Rattle.links.specs.Links.{Object, heldFrom, states, answers, rowsOf, recordRows, objectRows, linksFrom}
 use Rattle.links.specs.Finding.{Within, objectsAt, heldAt, NextObject, Indexed, RowsPut}
-use Rattle.links.specs.FindingLaws.{held-first, some-end}
-use Rattle.links.proofs.ObjectLaws.{within-end}
+use Rattle.links.specs.FindingLaws.{within-end, held-first, some-end}
 use Rattle.links.proofs.RowLaws.{Partly, partly-none, partly-more, partly-all}
 
 -- the loop of `put_object`: the rows of the records before j are put
-pub record Telling (b : List ℕ) (i entry object : ℕ) (a c : List ℕ) (o j q : ℕ) : Type 0 where
+pub record Telling (b : List ℕ) (i entry object w : ℕ) (a c : List ℕ) (o j q : ℕ) : Type 0 where
   pub within : Within b j
-  pub few : q ≤ o + 512 * j
-  pub partly : Partly a c o q (objectRows (objectsAt b 0) object entry (heldAt b i)) (objectRows (objectsAt b 0) object entry (heldAt b j))
+  pub few : q ≤ o + 128 * j
+  pub partly : Partly w a c o q (objectRows (objectsAt b 0) object entry (heldAt b i)) (objectRows (objectsAt b 0) object entry (heldAt b j))
 
-pub telling-none : {b : List ℕ} {i : ℕ} (entry object : ℕ) (a : List ℕ) (o : ℕ) → Within b i → Telling b i entry object a a o i o
-telling-none entry object a o w = record { within = w; few = omega arith; partly = partly-none a o _ }
+pub telling-none : {b : List ℕ} {i : ℕ} (entry object w : ℕ) (a : List ℕ) (o : ℕ) → Within b i → Telling b i entry object w a a o i o
+telling-none entry object w a o v = record { within = v; few = omega arith; partly = partly-none w a o _ }
 
-module _ {b : List ℕ} {i entry object : ℕ} {a c : List ℕ} {o j q : ℕ} (w : Telling b i entry object a c o j q) where
+module _ {b : List ℕ} {i entry object w : ℕ} {a c : List ℕ} {o j q : ℕ} (p : Telling b i entry object w a c o j q) where
   -- no record is left
-  pub telling-all : length b < j + 4 → RowsPut a c o q (objectRows (objectsAt b 0) object entry (heldAt b i))
+  pub telling-all : length b < j + 4 → RowsPut w a c o q (objectRows (objectsAt b 0) object entry (heldAt b i))
   unfolding heldFrom objectRows
-  telling-all h = partly-all (w .partly) (rw (from-few b j h) refl)
+  telling-all h = partly-all (p .partly) (rw (from-few b j h) refl)
 
   module _ {k : ℕ} {t : Bool} (v : k ≡ two b (j + 2)) (s : t ≡ closing k) where
     -- the record at j is none of the object's
-    pub telling-closed : t ≡ true → j + 4 ≤ length b → RowsPut a c o q (objectRows (objectsAt b 0) object entry (heldAt b i))
+    pub telling-closed : t ≡ true → j + 4 ≤ length b → RowsPut w a c o q (objectRows (objectsAt b 0) object entry (heldAt b i))
     unfolding objectRows
-    telling-closed u h = partly-all (w .partly) (some-end b j h (λ e d. rw (held-first d, ← v, ← s, u) refl))
+    telling-closed u h = partly-all (p .partly) (some-end b j h (λ e d. rw (held-first d, ← v, ← s, u) refl))
 
     -- the record at j states the link l
     module _ {e l : ℕ} (u : t ≡ false) (d : Ends b j e) (g : l ≡ states entry k) where
-      pub telling-same : l ≡ 0 → Telling b i entry object a c o e q
+      pub telling-same : l ≡ 0 → Telling b i entry object w a c o e q
       unfolding objectRows recordRows
       telling-same z = record {
-        within = within-end (w .within) d;
+        within = within-end (p .within) d;
         few = omega arith;
-        partly = rw (held-first d, ← v, ← s, u, ← g, eq-eqb l 0 z) at (w .partly);
+        partly = rw (held-first d, ← v, ← s, u, ← g, eq-eqb l 0 z) at (p .partly);
       }
 
-      pub telling-more : {f : List ℕ} {r : ℕ} → (l ≡ 0 → ⊥) → RowsPut c f q r (rowsOf l object j (answers l (slice (j + 4) e b) 0 (objectsAt b 0))) → r ≤ q + 512 → Telling b i entry object a f o e r
+      pub telling-more : {f : List ℕ} {r : ℕ} → (l ≡ 0 → ⊥) → RowsPut w c f q r (rowsOf l object j (answers l (slice (j + 4) e b) 0 (objectsAt b 0))) → r ≤ q + 128 → Telling b i entry object w a f o e r
       unfolding objectRows recordRows
       telling-more n x y = record {
-        within = within-end (w .within) d;
+        within = within-end (p .within) d;
         few = omega arith;
-        partly = partly-more (w .partly) _ x (rw (held-first d, ← v, ← s, u, ← g, ne-eqb l 0 n) refl);
+        partly = partly-more (p .partly) _ x (rw (held-first d, ← v, ← s, u, ← g, ne-eqb l 0 n) refl);
       }
 
 -- the loop of `put_links`: the rows of the objects before i are put, which are k
-pub record Linking (b : List ℕ) (n : ℕ) (a c : List ℕ) (i q k : ℕ) : Type 0 where
+pub record Linking (b : List ℕ) (n w : ℕ) (a c : List ℕ) (i q k : ℕ) : Type 0 where
   pub within : Within b i
-  pub few : q ≤ 67108864 * k
+  pub few : q ≤ 16777216 * k
   pub count : length (objectsAt b i) + k ≡ n
-  pub partly : Partly a c 0 q (linksFrom (objectsAt b 0) 0 (objectsAt b 0)) (linksFrom (objectsAt b 0) k (objectsAt b i))
+  pub partly : Partly w a c 0 q (linksFrom (objectsAt b 0) 0 (objectsAt b 0)) (linksFrom (objectsAt b 0) k (objectsAt b i))
 
-pub linking-none : {b entries places : List ℕ} {n : ℕ} (a : List ℕ) → Indexed b entries places n → Within b 0 → Linking b n a a 0 0 0
-linking-none a x w = record { within = w; few = omega arith; count = omega arith; partly = partly-none a 0 _ }
+pub linking-none : {b entries places : List ℕ} {n : ℕ} (w : ℕ) (a : List ℕ) → Indexed b entries places n → Within b 0 → Linking b n w a a 0 0 0
+linking-none w a x v = record { within = v; few = omega arith; count = omega arith; partly = partly-none w a 0 _ }
 
-module _ {b : List ℕ} {n : ℕ} {a c : List ℕ} {i q k : ℕ} (w : Linking b n a c i q k) where
+module _ {b : List ℕ} {n w : ℕ} {a c : List ℕ} {i q k : ℕ} (p : Linking b n w a c i q k) where
   -- no object is left
-  ended : objectsAt b i ≡ [] → RowsPut a c 0 q (linksFrom (objectsAt b 0) 0 (objectsAt b 0))
+  ended : objectsAt b i ≡ [] → RowsPut w a c 0 q (linksFrom (objectsAt b 0) 0 (objectsAt b 0))
   unfolding linksFrom
-  ended e = partly-all (w .partly) (rw e refl)
+  ended e = partly-all (p .partly) (rw e refl)
 
-  pub linking-all : n ≤ k → RowsPut a c 0 q (linksFrom (objectsAt b 0) 0 (objectsAt b 0))
+  pub linking-all : n ≤ k → RowsPut w a c 0 q (linksFrom (objectsAt b 0) 0 (objectsAt b 0))
   linking-all h = ended (none (objectsAt b i) (omega arith))
     where
       none : (os : List Object) → length os ≡ 0 → os ≡ []
@@ -81,14 +80,14 @@ module _ {b : List ℕ} {n : ℕ} {a c : List ℕ} {i q k : ℕ} (w : Linking b 
       none (o ∷ os) e = absurd (omega arith)
 
   module _ {j : ℕ} (x : NextObject b i j) where
-    pub linking-out : length b < j + 4 → RowsPut a c 0 q (linksFrom (objectsAt b 0) 0 (objectsAt b 0))
+    pub linking-out : length b < j + 4 → RowsPut w a c 0 q (linksFrom (objectsAt b 0) 0 (objectsAt b 0))
     linking-out h = ended (x .none h)
 
-    pub linking-next : {e entry r : ℕ} {d : List ℕ} → j + 4 ≤ length b → Ends b j e → entry ≡ getD (slice (j + 4) e b) 0 0 → RowsPut c d q r (objectRows (objectsAt b 0) k entry (heldAt b e)) → r ≤ q + 67108864 → Linking b n a d e r (k + 1)
+    pub linking-next : {e entry r : ℕ} {d : List ℕ} → j + 4 ≤ length b → Ends b j e → entry ≡ getD (slice (j + 4) e b) 0 0 → RowsPut w c d q r (objectRows (objectsAt b 0) k entry (heldAt b e)) → r ≤ q + 16777216 → Linking b n w a d e r (k + 1)
     unfolding linksFrom
     linking-next {e} h y g f m = record {
-      within = within-end (w .within) y;
+      within = within-end (p .within) y;
       few = omega arith;
-      count = let z = rw (x .some h e y) at (w .count) in omega arith;
-      partly = partly-more (w .partly) _ f (rw (add-one, x .some h e y, g) refl);
+      count = let z = rw (x .some h e y) at (p .count) in omega arith;
+      partly = partly-more (p .partly) _ f (rw (add-one, x .some h e y, g) refl);
     }

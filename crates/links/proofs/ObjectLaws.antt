@@ -11,12 +11,8 @@ use Rattle.rules.specs.Book.{Ends}
 use Rattle.rules.specs.BookLaws.{from-few}
 use Rattle.rules.specs.Blocks.{closing}
 use Rattle.links.specs.Links.{heldFrom, objectsFrom, Found, firstOf}
-use Rattle.links.specs.FindingLaws.{objects-first, held-first, some-end}
+use Rattle.links.specs.FindingLaws.{within-end, objects-first, held-first, some-end}
 use Rattle.links.specs.Finding.{Within, objectsAt, heldAt, NextObject, FoundAt}
-
--- where it ends is a place
-pub within-end : {b : List ℕ} {i j e : ℕ} → Within b i → Ends b j e → Within b e
-within-end w d = record { high = d .high; small = w .small }
 
 -- the loop of `next_object`: no object begins before j
 pub record Seeking (b : List ℕ) (i j : ℕ) : Type 0 where

@@ -5,7 +5,7 @@ use mathlib.Core.List.{List, [], _∷_}
 use mathlib.Core.Bool.{true, true≢false}
 use native.Mathlib.Nat.{add-zero, add-suc}
 use native.Mathlib.Omega.{arith}
-use lib.ListN.{length, getD, drop}
+use lib.ListN.{length, getD, drop, replicate, length-replicate, getD-replicate}
 use lib.Seq.{drop-nil}
 use Rattle.elements.specs.ChoiceLaws.{by-choose, both-true}
 use Rattle.rules.specs.EqualLaws.{equal-is}
@@ -39,6 +39,10 @@ pub record Leads (b : List ℕ) (n key i j : ℕ) : Type 0 where
 pub record Blank (chains : List ℕ) : Type 0 where
   pub long : 384 ≤ length chains
   pub none : (h : ℕ) → h < 256 → getD chains h 0 ≡ 255
+
+-- as the array is made
+pub blank : Blank (replicate 384 255)
+blank = record { long = omega (arith, length-replicate {A = ℕ} 384 255); none = λ h l. getD-replicate 384 h 255 0 (omega arith) }
 
 -- the chains of the objects from i on: the first one of each key, and from 256 on the one of its key after each object
 pub record Chained (b chains : List ℕ) (n i : ℕ) : Type 0 where

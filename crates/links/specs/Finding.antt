@@ -1,14 +1,13 @@
 -- What the code finds in a book's bytes: objects, their records, an index of them, and the rows that it puts.
-use Prim.Native.Nat.{ℕ, _+_, _≤_, _<_}
+use Prim.Native.Nat.{ℕ, _+_, _-_, _*_, _≤_, _<_}
 use mathlib.Core.Path.{_≡_}
 use mathlib.Core.List.{List, [], _∷_}
 use mathlib.Core.Bool.{Bool, _&&_}
-use lib.ListN.{length, getD}
-use lib.Seq.{slice}
-use Rattle.elements.specs.Put.{Put}
+use lib.ListN.{length, getD, drop}
+use lib.Seq.{slice, sets}
 use Rattle.rules.specs.Files.{two}
 use Rattle.rules.specs.Book.{recordsFrom, Ends}
-use Rattle.links.specs.Links.{Held, held, Object, heldFrom, objectsFrom, answering, idKind, Found, none, found, firstOf, isId, Row, listed, Chosen, nobody, chosen, objectAt}
+use Rattle.links.specs.Links.{Held, held, Object, heldFrom, objectsFrom, answering, idKind, Found, none, found, firstOf, isId, Reply, number, Row, row, listed, Chosen, nobody, chosen, objectAt}
 
 -- a place in bytes that may be a book
 pub record Within (b : List ℕ) (i : ℕ) : Type 0 where
@@ -80,6 +79,12 @@ pub record Indexed (b entries places : List ℕ) (n : ℕ) : Type 0 where
 pub record AnswerTold (b : List ℕ) (p e link entry place : ℕ) (r : Bool) : Type 0 where
   pub is : (f : Found) → FoundAt b f place → r ≡ (answering link entry && isId (slice (p + 4) e b) f)
 
--- rows are put from o on into the lent numbers, which were a and are c
-pub record RowsPut (a c : List ℕ) (o r : ℕ) (rs : List Row) : Type 0 where
-  pub put : Put a c o r (listed rs)
+-- rows of the list, those from number o up to r, are put into lent numbers, which were a and are c and begin with row w of the list
+pub record RowsPut (w : ℕ) (a c : List ℕ) (o r : ℕ) (rs : List Row) : Type 0 where
+  pub at : r ≡ o + length rs
+  pub to : c ≡ sets a (4 * (o - w)) (listed (drop (w - o) rs))
+
+-- one row, by its four numbers
+pub record RowPut (w : ℕ) (a c : List ℕ) (o r link object at answer : ℕ) : Type 0 where
+  pub next : r ≡ o + 1
+  pub is : (p : Reply) → answer ≡ number p → RowsPut w a c o r (row link object at p ∷ [])

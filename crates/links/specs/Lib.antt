@@ -7,6 +7,7 @@ pub mod Finding
 pub mod FindingLaws
 pub mod Chains
 pub mod Serving
+pub mod BookFacts
 pub mod Told
 pub mod SameList
 pub mod Demand3

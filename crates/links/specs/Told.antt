@@ -57,7 +57,7 @@ four-each [] = refl
 four-each (r ∷ rs) = omega (arith, four-each rs)
 
 -- object j is one of them
-at-below : (os : List Object) (j : ℕ) {o : Object} → objectAt os j ≡ chosen o → j < length os
+pub at-below : (os : List Object) (j : ℕ) {o : Object} → objectAt os j ≡ chosen o → j < length os
 at-below [] j e = absurd (let z : _≡_ {A = ℕ} 0 1 = cc in omega arith)
 at-below (o ∷ os) zero e = omega arith
 at-below (o ∷ os) (suc j) e = omega (arith, at-below os j e)

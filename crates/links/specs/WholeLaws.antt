@@ -47,7 +47,7 @@ pub untrue : (t : Bool) → T (not t) → t ≡ false
 untrue t h = not-true t (is-true (not t) h)
 
 -- the first of records that close no object, and those behind it
-inner-first : (r : Rec) (rs : List Rec) → T (inner (r ∷ rs)) → (closing (r .kind) ≡ false) × T (inner rs)
+pub inner-first : (r : Rec) (rs : List Rec) → T (inner (r ∷ rs)) → (closing (r .kind) ≡ false) × T (inner rs)
 inner-first r rs h = let t = all-both (not (closing (r .kind))) (inner rs) h in (untrue (closing (r .kind)) (t .0), t .1)
 
 -- they start none either, and an object holds all of them
@@ -58,7 +58,7 @@ objects-behind P at (r ∷ rs) bs h f =
     let t = inner-first r rs h in
     rw (not-closing (r .kind) (t .0)) (objects-behind P (past at r) rs bs (t .1) f)
 
-held-behind : (at : ℕ) (rs bs : List Rec) → T (inner rs) → ((q : ℕ) → heldFrom q bs ≡ []) → heldFrom at (rs ++ bs) ≡ heldAll at rs
+pub held-behind : (at : ℕ) (rs bs : List Rec) → T (inner rs) → ((q : ℕ) → heldFrom q bs ≡ []) → heldFrom at (rs ++ bs) ≡ heldAll at rs
 unfolding heldFrom heldAll
 held-behind at [] bs h f = f at
 held-behind at (r ∷ rs) bs h f =

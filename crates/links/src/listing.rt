@@ -14,13 +14,23 @@ ghost use Rattle.links.specs.Finding.{Within, objectsAt, Indexed};
 ghost use Rattle.links.specs.Chains.{Blank, Chained};
 ghost use Rattle.links.specs.Serving.{ListTold};
 
+// The index of a book's objects and the chains of their identifiers; how many objects there are.
+pub fn indexed(b: &[u8], entries: &mut [u8], places: &mut [usize], chains: &mut [u8]) -> usize
+    requires { ⌜ Within (now b) 0 × (length (objectsAt (now b) 0) ≤ 128) × (128 ≤ length (now entries)) × (128 ≤ length (now places)) × Blank (now chains) ⌝ }
+    ensures { λ r. ⌜ Indexed (now (b .entry)) (now (entries .exit)) (now (places .exit)) r × Chained (now (b .entry)) (now (chains .exit)) r 0 ⌝ }
+{
+    let n = index(b, entries, places);
+    chain(b, n, places, chains);
+    n
+}
+
 // How many numbers the list has: it is put where there is no room.
 fn numbers(b: &[u8], n: usize, entries: &[u8], places: &[usize], chains: &[u8]) -> usize
     requires { ⌜ Indexed (now b) (now entries) (now places) n × Chained (now b) (now chains) n 0 × Within (now b) 0 ⌝ }
     ensures { λ r. ⌜ r ≡ length (listed (links (records (now (b .entry))))) ⌝ }
 {
     let mut nothing = [0u32; 0];
-    put_links(b, n, entries, places, chains, &mut nothing)
+    4 * put_links(b, n, entries, places, chains, &mut nothing, 0)
 }
 
 // The links of an accepted book: how many numbers there are, and then, if there is room, the numbers.
@@ -34,13 +44,12 @@ fn list_by(
     requires { ⌜ Within (now b) 0 × (length (objectsAt (now b) 0) ≤ 128) × (128 ≤ length (now entries)) × (128 ≤ length (now places)) × Blank (now chains) ⌝ }
     ensures { λ r. ⌜ Gives (listed (links (records (now (b .entry))))) (now (rows .entry)) (now (rows .exit)) r ⌝ }
 {
-    let n = index(b, entries, places);
-    chain(b, n, places, chains);
+    let n = indexed(b, entries, places, chains);
     let m = numbers(b, n, entries, places, chains);
     if rows.len() < m {
         return Outcome::Refused(Fault::NoRoom, m);
     }
-    put_links(b, n, entries, places, chains, rows);
+    put_links(b, n, entries, places, chains, rows, 0);
     Outcome::Accepted(m)
 }
 

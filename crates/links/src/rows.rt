@@ -15,11 +15,11 @@ ghost use lib.ListN.{length};
 ghost use lib.Seq.{slice};
 ghost use Rattle.elements.specs.Put.{Put};
 ghost use Rattle.links.specs.Links.{answers, rowsOf, objectRows, linksFrom};
-ghost use Rattle.links.specs.Finding.{Within, objectsAt, heldAt, Indexed, AnswerTold, RowsPut};
+ghost use Rattle.links.specs.Finding.{Within, objectsAt, heldAt, Indexed, AnswerTold, RowPut, RowsPut};
 ghost use Rattle.links.specs.Chains.{Chained};
 
-// A row of four numbers.
-fn put_row(rows: &mut [u32], o: usize, link: u32, object: u32, at: u32, answer: u32) -> usize
+// Four numbers from o on.
+fn put_four(rows: &mut [u32], o: usize, link: u32, object: u32, at: u32, answer: u32) -> usize
     requires { ⌜ o < 2 ^ 62 ⌝ }
     ensures { λ r. ⌜ Put (now (rows .entry)) (now (rows .exit)) o r (link ∷ object ∷ at ∷ answer ∷ []) ⌝ }
 {
@@ -27,6 +27,26 @@ fn put_row(rows: &mut [u32], o: usize, link: u32, object: u32, at: u32, answer: 
     let q = store(rows, p, object);
     let r = store(rows, q, at);
     store(rows, r, answer)
+}
+
+// Row o of the list, where the numbers lent begin with row w.
+fn put_row(
+    rows: &mut [u32],
+    w: usize,
+    o: usize,
+    link: u32,
+    object: u32,
+    at: u32,
+    answer: u32,
+) -> usize
+    requires { ⌜ o < 2 ^ 60 ⌝ }
+    ensures { λ r. ⌜ RowPut w (now (rows .entry)) (now (rows .exit)) o r link object at answer ⌝ }
+{
+    if o < w {
+        return o + 1;
+    }
+    put_four(rows, 4 * (o - w), link, object, at, answer);
+    o + 1
 }
 
 // Whether an object with this entry and identifier's place answers the link that the record from p to e states.
@@ -55,21 +75,22 @@ fn put_answers(
     places: &[usize],
     chains: &[u8],
     rows: &mut [u32],
+    w: usize,
     o: usize,
 ) -> usize
-    requires { ⌜ Indexed (now b) (now entries) (now places) n × Chained (now b) (now chains) n 0 × Within (now b) e × (p + 4 ≤ e) × (o < 2 ^ 61) ⌝ }
-    ensures { λ r. ⌜ RowsPut (now (rows .entry)) (now (rows .exit)) o r (rowsOf link object p (answers link (slice (p + 4) e (now (b .entry))) 0 (objectsAt (now (b .entry)) 0))) × (r ≤ o + 512) ⌝ }
+    requires { ⌜ Indexed (now b) (now entries) (now places) n × Chained (now b) (now chains) n 0 × Within (now b) e × (p + 4 ≤ e) × (o < 2 ^ 59) ⌝ }
+    ensures { λ r. ⌜ RowsPut w (now (rows .entry)) (now (rows .exit)) o r (rowsOf link object p (answers link (slice (p + 4) e (now (b .entry))) 0 (objectsAt (now (b .entry)) 0))) × (r ≤ o + 128) ⌝ }
 {
     let mut j = chains[key(b, p + 4, e)] as usize;
     let mut q = o;
     while j < n {
         if is_answer(b, p, e, link, entries[j], places[j]) {
-            q = put_row(rows, q, link, object, p as u32, j as u32);
+            q = put_row(rows, w, q, link, object, p as u32, j as u32);
         }
         j = chains[256 + j] as usize;
     }
     if q == o {
-        return put_row(rows, o, link, object, p as u32, 4294967295);
+        return put_row(rows, w, o, link, object, p as u32, 4294967295);
     }
     q
 }
@@ -85,10 +106,11 @@ fn put_object(
     places: &[usize],
     chains: &[u8],
     rows: &mut [u32],
+    w: usize,
     o: usize,
 ) -> usize
-    requires { ⌜ Indexed (now b) (now entries) (now places) n × Chained (now b) (now chains) n 0 × Within (now b) i × (o < 2 ^ 60) ⌝ }
-    ensures { λ r. ⌜ RowsPut (now (rows .entry)) (now (rows .exit)) o r (objectRows (objectsAt (now (b .entry)) 0) object entry (heldAt (now (b .entry)) i)) × (r ≤ o + 67108864) ⌝ }
+    requires { ⌜ Indexed (now b) (now entries) (now places) n × Chained (now b) (now chains) n 0 × Within (now b) i × (o < 2 ^ 58) ⌝ }
+    ensures { λ r. ⌜ RowsPut w (now (rows .entry)) (now (rows .exit)) o r (objectRows (objectsAt (now (b .entry)) 0) object entry (heldAt (now (b .entry)) i)) × (r ≤ o + 16777216) ⌝ }
 {
     let mut j = i;
     let mut q = o;
@@ -100,14 +122,27 @@ fn put_object(
         let e = record_end(b, j);
         let link = link_of(entry, k);
         if link != 0 {
-            q = put_answers(b, j, e, link, object, n, entries, places, chains, rows, q);
+            q = put_answers(
+                b,
+                j,
+                e,
+                link,
+                object,
+                n,
+                entries,
+                places,
+                chains,
+                rows,
+                w,
+                q,
+            );
         }
         j = e;
     }
     q
 }
 
-// All rows.
+// All rows of the list, where the numbers lent begin with row w; how many there are.
 pub fn put_links(
     b: &[u8],
     n: usize,
@@ -115,9 +150,10 @@ pub fn put_links(
     places: &[usize],
     chains: &[u8],
     rows: &mut [u32],
+    w: usize,
 ) -> usize
     requires { ⌜ Indexed (now b) (now entries) (now places) n × Chained (now b) (now chains) n 0 × Within (now b) 0 ⌝ }
-    ensures { λ r. ⌜ RowsPut (now (rows .entry)) (now (rows .exit)) 0 r (linksFrom (objectsAt (now (b .entry)) 0) 0 (objectsAt (now (b .entry)) 0)) ⌝ }
+    ensures { λ r. ⌜ RowsPut w (now (rows .entry)) (now (rows .exit)) 0 r (linksFrom (objectsAt (now (b .entry)) 0) 0 (objectsAt (now (b .entry)) 0)) × (r ≤ 2147483648) ⌝ }
 {
     let mut i = 0;
     let mut q = 0;
@@ -129,7 +165,19 @@ pub fn put_links(
         }
         i = record_end(b, j);
         let entry = byte_at(b, j + 4, i, 0);
-        q = put_object(b, i, entry, k as u32, n, entries, places, chains, rows, q);
+        q = put_object(
+            b,
+            i,
+            entry,
+            k as u32,
+            n,
+            entries,
+            places,
+            chains,
+            rows,
+            w,
+            q,
+        );
         k += 1;
     }
     q

@@ -2,6 +2,7 @@
 use elements::Fault;
 use elements::number_of;
 use libc::STDOUT_FILENO;
+use why::Why;
 ghost use Prim.Native.Nat.{_+_, _≤_};
 ghost use lib.ListN.{length};
 
@@ -33,16 +34,41 @@ fn number(n: u32) {
     decimal(n as u64);
 }
 
-fn answer(n: u32) {
+// A record that is shown: its book offset and its kind.
+fn record(name: &[u8], p: usize, kind: u32) {
+    word(name);
+    decimal(p as u64);
+    word(b" ");
+    io::print_hex(STDOUT_FILENO, kind as u64, 4);
+    word(b"\n");
+}
+
+// "met 89 0150", "no object of the class", "elsewhere 82 0130", "nowhere"
+pub fn reason(w: Why) {
+    match w {
+        Why::Met(p, k) => record(b"met ", p, k),
+        Why::NoObject => word(b"no object of the class\n"),
+        Why::Elsewhere(p, k) => record(b"elsewhere ", p, k),
+        Why::Nowhere => word(b"nowhere\n"),
+        Why::Refused(f, p) => refused(f, p),
+    }
+}
+
+// The answering object of row r, or `-`, and behind that, if it is asked for, why.
+fn answer(n: u32, book: &[u8], r: usize, whys: bool) {
     if n == 4294967295 {
+        if whys {
+            word(b"- ");
+            return reason(why::why(book, r));
+        }
         return word(b"-\n");
     }
     number(n);
     word(b"\n");
 }
 
-// The row whose four numbers start at i.
-fn row(rows: &[u32], i: usize)
+// Row r, whose four numbers start at i.
+fn row(book: &[u8], rows: &[u32], i: usize, r: usize, whys: bool)
     requires { ⌜ i + 4 ≤ length (now rows) ⌝ }
 {
     link(rows[i]);
@@ -50,16 +76,16 @@ fn row(rows: &[u32], i: usize)
     word(b" ");
     number(rows[i + 2]);
     word(b" ");
-    answer(rows[i + 3]);
+    answer(rows[i + 3], book, r, whys);
 }
 
-pub fn links(rows: &[u32]) {
+pub fn links(book: &[u8], rows: &[u32], whys: bool) {
     word(b"links ");
     decimal((rows.len() / 4) as u64);
     word(b"\n");
     let mut i = 0;
     while i + 4 <= rows.len() {
-        row(rows, i);
+        row(book, rows, i, i / 4, whys);
         i += 4;
     }
 }

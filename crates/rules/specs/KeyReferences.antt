@@ -1,5 +1,5 @@
 -- "For keyReference the bounds become minus 128 to 255, and 0134 holds the two's complement in four bytes."
-use Prim.Native.Nat.{ℕ, zero, suc, _≤_}
+use Prim.Native.Nat.{ℕ, zero, suc, _≤_, _<_}
 use mathlib.Core.Path.{_≡_, refl, sym}
 use mathlib.Core.Bool.{true, false, true≢false}
 use mathlib.Core.List.{List, [], _∷_, _++_}
@@ -7,6 +7,7 @@ use native.Mathlib.Omega.{arith}
 use lib.IntN.{ℤ, pos, negsuc, negℤ}
 use lib.Signed.{leZ, nonNeg}
 use lib.Seq.{slice}
+use lib.ListN.{length, getD}
 use lib.Dec.{ltb}
 use Rattle.elements.specs.declared.fault.Fault.the-variants.{OutOfRange}
 use Rattle.elements.specs.declared.answer.Form.the-variants as form
@@ -18,6 +19,8 @@ use Rattle.elements.specs.Put.{le32}
 use Rattle.rules.specs.declared.table.Need.{Need}
 use Rattle.rules.specs.declared.table.Need.the-variants.{Required, Optional, Default}
 use Rattle.rules.specs.declared.table.Row.{Row}
+use Rattle.rules.specs.declared.table.Sequence.{Sequence}
+use Rattle.rules.specs.declared.table.Sequence.the-variants.{Info, Common, Rule, Key, CertificateAttributes, Authentication, PrivateKeyAttributes, PasswordAttributes, Path, Template, Discretionary, OdfPath, InfoPath}
 use Rattle.rules.specs.Reading.{fails, twos}
 use Rattle.rules.specs.Parts.{isDefault, payload, rowBody}
 use Rattle.rules.specs.Tables.{rowsOf, sequences}
@@ -59,3 +62,19 @@ two-encodings = (refl, refl)
 
 pub two-payloads : (le32 (twos (negℤ (pos 127))) ≡ 0x81 ∷ 0xff ∷ 0xff ∷ 0xff ∷ []) × (le32 (twos (pos 129)) ≡ 0x81 ∷ 0x00 ∷ 0x00 ∷ 0x00 ∷ [])
 two-payloads = (refl, refl)
+
+-- "every other component": the tables are all, since each sequence has its place on that list
+pub each-sequence : (q : Sequence) → (n : ℕ) × (n < length sequences) × (getD sequences n Info ≡ q)
+each-sequence Info = (0, omega arith, refl)
+each-sequence Common = (1, omega arith, refl)
+each-sequence Rule = (2, omega arith, refl)
+each-sequence Key = (3, omega arith, refl)
+each-sequence CertificateAttributes = (4, omega arith, refl)
+each-sequence Authentication = (5, omega arith, refl)
+each-sequence PrivateKeyAttributes = (6, omega arith, refl)
+each-sequence PasswordAttributes = (7, omega arith, refl)
+each-sequence Path = (8, omega arith, refl)
+each-sequence Template = (9, omega arith, refl)
+each-sequence Discretionary = (10, omega arith, refl)
+each-sequence OdfPath = (11, omega arith, refl)
+each-sequence InfoPath = (12, omega arith, refl)

@@ -1,14 +1,14 @@
-//! Writing, listing, and handing back fields.
+//! Writing, listing, handing back fields, and telling why a row is as it is.
 
 use crate::counts::{Counts, Service};
 use crate::lent::{byte_pattern, number_pattern, Task};
-use crate::Differ;
+use crate::{whys, Differ};
 use adarbukoi::{raw, Refusal};
 use independent::book::records;
 use independent::generate::Rng;
 use independent::{field, links};
 
-/// Compares the three services that take a book.
+/// Compares the four services that take a book.
 pub fn compare(book: &[u8], rng: &mut Rng, counts: &mut Counts) -> Result<(), Differ> {
     let dump = independent::write(book);
     let rows = match &dump {
@@ -22,7 +22,8 @@ pub fn compare(book: &[u8], rng: &mut Rng, counts: &mut Counts) -> Result<(), Di
     let list =
         Task { service: Service::List, input: book, expected: rows, call: adarbukoi::list, pattern: number_pattern };
     list.compare(rng, counts)?;
-    fields(book, refusal, rng, counts)
+    fields(book, refusal, rng, counts)?;
+    whys::compare(book, refusal, rng, counts)
 }
 
 /// What stands before EF.DIR's records in a book that has them.

@@ -5,7 +5,9 @@ use std::collections::BTreeMap;
 /// How often each number was seen, 0 being accepted, for each service.
 #[derive(Default)]
 pub struct Counts {
-    services: [BTreeMap<u32, u64>; 4],
+    services: [BTreeMap<u32, u64>; 5],
+    /// How often each of the four answers of the last service was seen.
+    whys: [u64; 4],
 }
 
 #[derive(Clone, Copy)]
@@ -14,11 +16,12 @@ pub enum Service {
     Write,
     List,
     Field,
+    Why,
 }
 
 impl Service {
     pub fn name(self) -> &'static str {
-        ["read", "write", "list", "field"][self as usize]
+        ["read", "write", "list", "field", "why"][self as usize]
     }
 }
 
@@ -28,8 +31,13 @@ impl Counts {
         *self.services[service as usize].entry(number).or_default() += 1;
     }
 
+    /// Counts one of the four answers, 1 to 4.
+    pub fn add_why(&mut self, answer: u32) {
+        self.whys[answer as usize - 1] += 1;
+    }
+
     pub fn print(&self) {
-        for service in [Service::Read, Service::Write, Service::List, Service::Field] {
+        for service in [Service::Read, Service::Write, Service::List, Service::Field, Service::Why] {
             let seen = &self.services[service as usize];
             print!("{:<6} accepted {}", service.name(), seen.get(&0).unwrap_or(&0));
             for (number, count) in seen.range(1..) {
@@ -37,5 +45,7 @@ impl Counts {
             }
             println!();
         }
+        let [met, no_object, elsewhere, nowhere] = self.whys;
+        println!("       met {met}, no object {no_object}, elsewhere {elsewhere}, nowhere {nowhere}");
     }
 }

@@ -1,10 +1,11 @@
-//! `compare [COUNT] [SEED]`: compares the four services of the proved library with the independent reader on COUNT
+//! `compare [COUNT] [SEED]`: compares the five services of the proved library with the independent reader on COUNT
 //! generated inputs (20,000 by default): answers, places, and all bytes of the output, those past the length included.
 
 mod books;
 mod counts;
 mod dumps;
 mod lent;
+mod whys;
 
 use counts::Counts;
 use independent::generate::{dump, Rng};

@@ -6,11 +6,11 @@ use crate::book::{records, Record};
 pub const MISSING: u32 = 4_294_967_295;
 
 /// An identifier that stands in an object.
-struct Identifier<'a> {
-    object: u32,
+pub(crate) struct Identifier<'a> {
+    pub object: u32,
     /// The tag of the EF.OD entry that the object belongs to.
-    entry: u8,
-    record: Record<'a>,
+    pub entry: u8,
+    pub record: Record<'a>,
 }
 
 /// The rows of a book that is known to be accepted.
@@ -25,7 +25,8 @@ pub fn of_accepted(book: &[u8]) -> Vec<[u32; 4]> {
     rows
 }
 
-fn identifiers(book: &[u8]) -> Vec<Identifier<'_>> {
+/// The identifiers of all objects, in the book's order.
+pub(crate) fn identifiers(book: &[u8]) -> Vec<Identifier<'_>> {
     let mut found = Vec::new();
     let mut objects = 0;
     let mut entry = 0;
@@ -45,7 +46,7 @@ fn identifiers(book: &[u8]) -> Vec<Identifier<'_>> {
 }
 
 /// Which link, if any, this identifier states.
-fn link_stated(identifier: &Identifier) -> Option<u32> {
+pub(crate) fn link_stated(identifier: &Identifier) -> Option<u32> {
     match identifier.record.kind {
         0x0123 => Some(1),
         0x0127 => Some(2),
@@ -68,9 +69,16 @@ fn rows_of(link: u32, stating: &Identifier, all: &[Identifier]) -> Vec<[u32; 4]>
     rows
 }
 
-fn may_answer(link: u32, other: &Identifier) -> bool {
+/// Whether an object that bears this identifier answers a link of this number that names it.
+pub(crate) fn may_answer(link: u32, other: &Identifier) -> bool {
+    let kind = if matches!(link, 1 | 2) { 0x0150 } else { 0x0140 };
+    other.record.kind == kind && of_the_class(link, other.entry)
+}
+
+/// Whether the objects of this entry are of the class that answers a link of this number.
+pub(crate) fn of_the_class(link: u32, entry: u8) -> bool {
     match link {
-        1 | 2 => other.record.kind == 0x0150 && other.entry == 0xA8,
-        _ => other.record.kind == 0x0140 && (0xA4..=0xA6).contains(&other.entry),
+        1 | 2 => entry == 0xA8,
+        _ => (0xA4..=0xA6).contains(&entry),
     }
 }

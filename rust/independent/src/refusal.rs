@@ -48,7 +48,7 @@ pub const TWICE: u32 = 13;
 pub const ROOM: u32 = 14;
 /// no accepted dump has this book
 pub const BOOK: u32 = 15;
-/// object or field not there
+/// object, field or row not there
 pub const NONE: u32 = 16;
 /// a record holds a second object
 pub const SECOND: u32 = 17;

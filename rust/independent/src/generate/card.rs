@@ -10,6 +10,8 @@ pub const LARGEST_DUMP: usize = 32_768;
 pub const LARGEST_FILE: usize = 16_383;
 /// How many of a hundred cards may have record files, so that about a third of all have one.
 const LINEAR: usize = 52;
+/// How many of a hundred cards without a flaw are about links.
+const LINKED: usize = 12;
 
 /// A card that is accepted.
 pub fn valid(rng: &mut Rng) -> Card {
@@ -90,8 +92,11 @@ fn made(rng: &mut Rng, flaws: Vec<Flaw>) -> Card {
     let about_cards = flaws.iter().any(|flaw| matches!(flaw, Flaw::Many | Flaw::Size | Flaw::Twice | Flaw::Path));
     let small = !about_cards && rng.chance(if flaws.is_empty() { 30 } else { 70 });
     let linear = flaws.contains(&Flaw::Second) || rng.chance(LINEAR);
+    let about_links = flaws.is_empty() && rng.chance(LINKED);
     let mut maker = Maker { rng, flaws, often: false, pool, own, taken: vec![], left, small, linear };
-    if small {
+    if about_links {
+        maker.linked_card()
+    } else if small {
         maker.small_card()
     } else {
         maker.card()
@@ -114,13 +119,18 @@ fn pool(rng: &mut Rng) -> Vec<Vec<u8>> {
 impl Maker<'_> {
     /// A card of one entry with one or two objects.
     fn small_card(&mut self) -> Card {
-        let parts = vec![leaf(0x02, vec![1]), leaf(0x03, vec![0])];
-        let info = File { nodes: vec![group(0x30, parts)], fill: (0, 0) };
-        let directory = File { nodes: vec![], fill: (0, 0) };
-        let mut card = Card { templates: self.templates(), info, directory, files: vec![] };
+        let mut card = self.empty_card();
         self.left = self.rng.between(1, 2);
         self.entry(&mut card, false);
         card
+    }
+
+    /// A card with the shortest CIAInfo and without entries, which may have an EF.DIR.
+    pub fn empty_card(&mut self) -> Card {
+        let parts = vec![leaf(0x02, vec![1]), leaf(0x03, vec![0])];
+        let info = File { nodes: vec![group(0x30, parts)], fill: (0, 0) };
+        let directory = File { nodes: vec![], fill: (0, 0) };
+        Card { templates: self.templates(), info, directory, files: vec![] }
     }
 
     fn card(&mut self) -> Card {
@@ -174,6 +184,11 @@ impl Maker<'_> {
             return;
         }
         let objects = self.objects(tag, crowd);
+        self.place(card, tag, objects);
+    }
+
+    /// Adds an EF.OD entry with these objects, inline or in a file.
+    pub fn place(&mut self, card: &mut Card, tag: u8, objects: Vec<Node>) {
         let inline = if self.flaws.contains(&Flaw::Second) { 10 } else { 40 };
         if self.rng.chance(inline) {
             card.directory.nodes.push(group(tag, vec![group(0xA0, objects)]));

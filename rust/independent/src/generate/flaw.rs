@@ -71,8 +71,9 @@ pub const FLAWS: [Flaw; 22] = [
     Flaw::Template,
 ];
 
-/// The flaws that an EF.DIR can have, its layout's more often.
-pub const TEMPLATE_FLAWS: [Flaw; 12] = [
+/// The flaws that an EF.DIR can have, those of its layout, its numbers and its bytes more often.
+pub const TEMPLATE_FLAWS: [Flaw; 13] = [
+    Flaw::Integer,
     Flaw::Integer,
     Flaw::Text,
     Flaw::Characters,

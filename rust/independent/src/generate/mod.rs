@@ -8,6 +8,7 @@ mod forms;
 mod full;
 mod linear;
 mod linear_damage;
+mod linked;
 mod maker;
 pub mod node;
 mod numbers;

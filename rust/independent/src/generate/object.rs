@@ -19,14 +19,19 @@ impl Maker<'_> {
 
     /// An object as short as it can be.
     pub fn short_object(&mut self, entry_tag: u8) -> Node {
-        let class = match entry_tag {
+        let class = self.short_class(entry_tag);
+        let tag = self.rng.between(0xA0, 0xA7) as u8;
+        let common = if self.rng.chance(30) { vec![self.identifier(0x04)] } else { vec![] };
+        sealed_object(tag, common, class)
+    }
+
+    /// What the class of such an object must have.
+    pub fn short_class(&mut self, entry_tag: u8) -> Vec<Node> {
+        match entry_tag {
             0xA0..=0xA3 => vec![self.identifier(0x04), leaf(0x03, vec![0])],
             0xA4..=0xA6 => vec![self.identifier(0x04)],
             _ => vec![],
-        };
-        let tag = self.rng.between(0xA0, 0xA7) as u8;
-        let common = if self.rng.chance(30) { vec![self.identifier(0x04)] } else { vec![] };
-        group(tag, vec![group(0x30, common), group(0x30, class), group(0xA1, vec![leaf(0x05, vec![])])])
+        }
     }
 
     fn common(&mut self) -> Node {
@@ -118,7 +123,7 @@ impl Maker<'_> {
     }
 
     /// An own authId that no other object has, or, as a flaw, one that another has.
-    fn own_identifier(&mut self) -> Option<Node> {
+    pub fn own_identifier(&mut self) -> Option<Node> {
         if !self.taken.is_empty() && self.flaw(Flaw::Twice) {
             return Some(leaf(0x04, self.rng.pick(&self.taken)));
         }
@@ -232,4 +237,9 @@ impl Maker<'_> {
             None
         }
     }
+}
+
+/// An object of a tag that seals its type, the shortest one.
+pub fn sealed_object(tag: u8, common: Vec<Node>, class: Vec<Node>) -> Node {
+    group(tag, vec![group(0x30, common), group(0x30, class), group(0xA1, vec![leaf(0x05, vec![])])])
 }

@@ -1,6 +1,7 @@
 use borrow.Author.Needs.{needs}
 use native.Mathlib.Omega.{arith}
-use Rattle.links.proofs.ServiceLaws.{book-start, place-no, place-low, place-high, place-by}
+use Rattle.links.specs.BookFacts.{book-start}
+use Rattle.links.proofs.ServiceLaws.{place-no, place-low, place-high, place-by}
 use Rattle.links.proofs.fields.field_place.Statement.{statement}
 use Rattle.links.proofs.fields.field_place.Tie as tie
 

@@ -1,7 +1,7 @@
 use borrow.Author.Needs.{needs}
 use Prim.Native.Nat.{_-_}
 use lib.ListN.{length}
-use Rattle.links.proofs.ObjectLaws.{within-end}
+use Rattle.links.specs.FindingLaws.{within-end}
 use Rattle.links.proofs.FieldLaws.{Numbering, numbering-start, numbering-end, numbering-none, numbering-here, numbering-next, found-within}
 use Rattle.links.proofs.fields.sought.Statement.{statement}
 use Rattle.links.proofs.fields.sought.Tie as tie

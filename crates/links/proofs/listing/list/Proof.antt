@@ -1,7 +1,8 @@
 use borrow.Author.Needs.{needs}
 use native.Mathlib.Omega.{arith}
-use Rattle.links.proofs.ChainLaws.{blank}
-use Rattle.links.proofs.ServiceLaws.{book-start, book-few, list-yes, list-no}
+use Rattle.links.specs.Chains.{blank}
+use Rattle.links.specs.BookFacts.{book-start, book-few}
+use Rattle.links.proofs.ServiceLaws.{list-yes, list-no}
 use Rattle.links.proofs.listing.list.Statement.{statement}
 use Rattle.links.proofs.listing.list.Tie as tie
 

@@ -1,5 +1,4 @@
 use borrow.Author.Needs.{needs}
-use Rattle.links.proofs.ChainLaws.{chained-none}
 use Rattle.layouts.specs.GivingLaws.{gives-none, gives-all}
 use Rattle.links.proofs.ServiceLaws.{list-put}
 use Rattle.links.proofs.listing.list_by.Statement.{statement}
@@ -8,8 +7,7 @@ use Rattle.links.proofs.listing.list_by.Tie as tie
 pub list-by-spec : {M : Type 1} → statement M
 list-by-spec =
     tie.close (tie.spec
-    (λ c κs. search needs)  -- index-requires
-    (λ c κs. search (chained-none, needs))  -- chain-requires
+    (λ c κs. search needs)  -- indexed-requires
     (λ c κs. search needs)  -- numbers-requires
     (λ c. search needs)  -- same-length
     (λ c. search needs)  -- same-length-2

@@ -8,4 +8,5 @@ numbers-spec =
     tie.close (tie.spec
     (λ c. search needs)  -- slice-aggregate-put-links
     (λ c κs. search needs)  -- put-links-requires
+    (λ c. search needs)  -- mul-result
     (λ c. search (numbers-are, needs)))  -- returns

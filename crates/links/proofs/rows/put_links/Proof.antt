@@ -6,10 +6,10 @@ use Rattle.links.proofs.rows.put_links.Statement.{statement}
 use Rattle.links.proofs.rows.put_links.Tie as tie
 
 abbrev Inv-loop : tie.InvT-loop
-Inv-loop b n entries places chains rows₀ i₀ q₀ k₀ rows i q k = Linking b n rows₀ rows i q k
+Inv-loop b n entries places chains rows₀ w i₀ q₀ k₀ rows i q k = Linking b n w rows₀ rows i q k
 
 abbrev μ-loop : tie.MeasureT-loop
-μ-loop b n entries places chains rows₀ i₀ q₀ k₀ rows i q k = n - k
+μ-loop b n entries places chains rows₀ w i₀ q₀ k₀ rows i q k = n - k
 
 pub put-links-spec : {M : Type 1} → statement M
 put-links-spec =
@@ -20,7 +20,7 @@ put-links-spec =
     (λ c κs. search needs)  -- next-object-requires
     (λ c. search needs)  -- add-if1
     (λ c. search partly-length)  -- same-length
-    (λ c. search linking-out)  -- returns
+    (λ c. search (linking-out, needs))  -- returns
     (λ c κs. search needs)  -- record-end-requires
     (λ c. search needs)  -- add-byte-at
     (λ c κs. search needs)  -- byte-at-requires
@@ -30,4 +30,4 @@ put-links-spec =
     (λ c. search needs)  -- loop-less
     (λ c. search linking-next)  -- loop-again
     (λ c. search partly-length)  -- same-length-2
-    (λ c. search linking-all))  -- returns-2
+    (λ c. search (linking-all, needs)))  -- returns-2

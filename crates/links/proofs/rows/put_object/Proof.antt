@@ -7,10 +7,10 @@ use Rattle.links.proofs.rows.put_object.Statement.{statement}
 use Rattle.links.proofs.rows.put_object.Tie as tie
 
 abbrev Inv-loop : tie.InvT-loop
-Inv-loop b i entry object n entries places chains rows₀ o j₀ q₀ rows j q = Telling b i entry object rows₀ rows o j q
+Inv-loop b i entry object n entries places chains rows₀ w o j₀ q₀ rows j q = Telling b i entry object w rows₀ rows o j q
 
 abbrev μ-loop : tie.MeasureT-loop
-μ-loop b i entry object n entries places chains rows₀ o j₀ q₀ rows j q = length b - j
+μ-loop b i entry object n entries places chains rows₀ w o j₀ q₀ rows j q = length b - j
 
 pub put-object-spec : {M : Type 1} → statement M
 put-object-spec =

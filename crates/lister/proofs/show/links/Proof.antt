@@ -5,10 +5,10 @@ use Rattle.lister.proofs.show.links.Statement.{statement}
 use Rattle.lister.proofs.show.links.Tie as tie
 
 abbrev Inv-loop : tie.InvT-loop
-Inv-loop rows i₀ i = i ≤ length rows
+Inv-loop book rows whys i₀ i = i ≤ length rows
 
 abbrev μ-loop : tie.MeasureT-loop
-μ-loop rows i₀ i = length rows - i
+μ-loop book rows whys i₀ i = length rows - i
 
 pub links-spec : {M : Type 1} → statement M
 links-spec =

@@ -1,19 +1,19 @@
 use borrow.Author.Needs.{needs}
 use Rattle.elements.specs.Lists.{count-take}
 use Rattle.layouts.specs.Service.{read-fits}
-use Rattle.lister.proofs.list.Statement.{statement}
-use Rattle.lister.proofs.list.Tie as tie
+use Rattle.lister.proofs.of_dump.Statement.{statement}
+use Rattle.lister.proofs.of_dump.Tie as tie
 
-pub list-spec : {M : Type 1} → statement M
-list-spec =
+pub of-dump-spec : {M : Type 1} → statement M
+of-dump-spec =
     tie.close (tie.spec
     (λ c κs. search needs)  -- read-requires
     (λ c. search needs)  -- enum-known-f
     (λ c κs. search needs)  -- refused-requires
     (λ c. search needs)  -- enum-known-n
-    (λ c. search (read-fits, needs))  -- slice-reshare-prefix-listed
-    (λ c. search (count-take, read-fits, needs))  -- slice-aggregate-listed
-    (λ c κs. search needs)  -- listed-requires
+    (λ c. search (read-fits, needs))  -- slice-reshare-prefix-answer
+    (λ c. search (count-take, read-fits, needs))  -- slice-aggregate-answer
+    (λ c κs. search needs)  -- answer-requires
     (λ c. search needs)  -- same-length
     (λ c. search needs)  -- returns
     (λ c. search needs)  -- same-length-2

@@ -1,0 +1,64 @@
+// What is asked for, by the words that the program was started with.
+ghost use Prim.Native.Nat.{_≤_};
+
+pub enum Question {
+    List,
+    Whys,
+    Row(usize),
+}
+
+// The number of no row: a book has at most 131,072 bytes, and no list so many rows.
+const NO_ROW: usize = 10000000000;
+
+// A decimal number with one digit more, by its ASCII code; of more than ten digits, or of what is no digit, no row.
+fn with_digit(n: usize, code: u8) -> usize
+    requires { ⌜ n ≤ 10000000000 ⌝ }
+    ensures { λ r. ⌜ r ≤ 10000000000 ⌝ }
+{
+    if n >= 1000000000 {
+        return NO_ROW;
+    }
+    match code {
+        48..=57 => 10 * n + (code - 48) as usize,
+        _ => NO_ROW,
+    }
+}
+
+fn number(text: &[u8]) -> usize {
+    let mut n = 0;
+    let mut i = 0;
+    while i < text.len() {
+        n = with_digit(n, text[i]);
+        i += 1;
+    }
+    n
+}
+
+pub fn asked() -> Question {
+    if os::arg_count() < 2 {
+        return Question::List;
+    }
+    if os::arg_count() < 3 {
+        return Question::Whys;
+    }
+    let mut text = [0u8; 64];
+    let n = os::arg(2, &mut text);
+    if n == 0 {
+        // an empty word, or one that is longer than the text
+        return Question::Row(NO_ROW);
+    }
+    Question::Row(number(&text[..n]))
+}
+
+// Whether why is asked of a book: its first record's kind is at least 0100, and a dump's is 0001 or 0005.
+pub fn of_a_book(asked: Question, card: &[u8]) -> bool {
+    match asked {
+        Question::List => false,
+        _ => {
+            if card.len() < 4 {
+                return false;
+            }
+            card[3] != 0
+        }
+    }
+}

@@ -1,0 +1,4 @@
+pub mod AnswerLaws
+pub mod StandsLaws
+pub mod PlaceLaws
+pub mod WhyLaws
