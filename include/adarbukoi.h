@@ -72,6 +72,11 @@ enum {
     ADARBUKOI_CERT = 3       /* a private key's iD, and each certificate that bears it */
 };
 
+/* The record that opens an object in the book: entry tag, object tag, 2-byte file number, 2-byte offset of the object's tag in
+ * that file, low bytes first. File 0 is EF.OD, 1 the dump's first directory file. It is no field of the object, so
+ * adarbukoi_field answers NONE for it; a caller finds it by going over the book's records. */
+enum { ADARBUKOI_OBJECT = 0x0120 };
+
 /* Kinds of an object's fields. A number has 4 bytes, its low byte first; in flags named bit i counts 2^i. */
 enum {
     ADARBUKOI_LABEL = 0x0121,                /* text: UTF-8, at most 255 characters; no NUL is behind it */

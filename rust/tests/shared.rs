@@ -13,8 +13,8 @@ fn dump() -> Vec<u8> {
 }
 
 fn book() -> Vec<u8> {
-    let mut book = vec![0; 126];
-    assert_eq!(read(&dump(), &mut book), Ok(126));
+    let mut book = vec![0; 134];
+    assert_eq!(read(&dump(), &mut book), Ok(134));
     book
 }
 
@@ -29,13 +29,13 @@ fn reads_and_writes() {
 fn lists() {
     let mut rows = [7; 14];
     assert_eq!(list(&book(), &mut rows), Ok(12));
-    assert_eq!(rows, [1, 0, 42, 1, 3, 0, 47, u32::MAX, 1, 1, 84, u32::MAX, 7, 7]);
+    assert_eq!(rows, [1, 0, 46, 1, 3, 0, 51, u32::MAX, 1, 1, 92, u32::MAX, 7, 7]);
 }
 
 #[test]
 fn hands_back_fields() {
     let book = book();
-    assert_eq!(field_place(&book, 0, 0x0123), Ok((46, 1)));
+    assert_eq!(field_place(&book, 0, 0x0123), Ok((50, 1)));
     assert_eq!(field(&book, 0, 0x0123), Ok(&[1][..]));
     assert_eq!(field(&book, 2, 0x0123), Err(Refusal { number: 16, place: 0 }));
 }
@@ -45,5 +45,5 @@ fn refuses_in_words() {
     let refusal = read(&[], &mut []).unwrap_err();
     assert_eq!(refusal, Refusal { number: 2, place: 0 });
     assert!(refusal.to_string().starts_with("refused, 2 frame at 0: a dump record is broken"));
-    assert_eq!(read(&dump(), &mut [0; 125]), Err(Refusal { number: 14, place: 126 }));
+    assert_eq!(read(&dump(), &mut [0; 133]), Err(Refusal { number: 14, place: 134 }));
 }

@@ -1,5 +1,5 @@
 -- A card, in the order and the words of documents 01 and 02: what may stand in it, its dump and its book. Nothing is read here.
-use Prim.Native.Nat.{ℕ, zero, suc, _≤_}
+use Prim.Native.Nat.{ℕ, zero, suc, _+_, _≤_}
 use mathlib.Core.Path.{_≡_}
 use mathlib.Core.List.{List, [], _∷_, _++_, map}
 use mathlib.Core.Logic.{_⊎_, inl, inr}
@@ -13,7 +13,7 @@ use Rattle.rules.specs.Reading.{Rec, rec}
 use Rattle.rules.specs.Tables.{classOf}
 use Rattle.rules.specs.Files.{Name, paths}
 use Rattle.rules.specs.Grammar as grammar
-use Rattle.rules.specs.Grammar.{Part, empty, _and_, many, oneOf, possibly, lengthed, flat}
+use Rattle.rules.specs.Grammar.{Where, opening, origin, _on_, into, low, numbers, each, Part, empty, _and_, many, oneOf, possibly, lengthed, flat}
 use Rattle.rules.specs.Conditions.{condition}
 use Rattle.rules.specs.Layouts as layouts
 use Rattle.rules.specs.Entries as entries
@@ -49,22 +49,23 @@ abbrev pub linear : ℕ → Part
 linear t = grammar.behind (many (recordIn t)) (λ _. rec 0x0119 [])
 
 -- "one byte of path length 1 to 64, path, directory file"; "A file is at most 16,383 bytes"
-abbrev pub named : ℕ → List ℕ → Part → Part
-named kind path P = record {
+-- the nth of the files, "1 upward in dump order": the places of its objects count from its own first byte
+abbrev pub named : ℕ → ℕ → List ℕ → Part → Part
+named n kind path P = record {
   Of = P .Of;
   bytes = λ x. recordBytes kind (length path ∷ path ++ P .bytes x);
-  book = P .book;
+  book = λ _. P .book (opening n 0);
   Meets = λ x. P .Meets x × (1 ≤ length path) × (length path ≤ 64) × (length (P .bytes x) ≤ 16383);
 }
 
 -- a file is transparent, of kind 0003, or of records, of kind 0004
-abbrev pub file : Name → Part
-file n = oneOf (named 3 (n .path) (directory (n .tag))) (named 4 (n .path) (linear (n .tag)))
+abbrev pub file : ℕ → Name → Part
+file n m = oneOf (named n 3 (m .path) (directory (m .tag))) (named n 4 (m .path) (linear (m .tag)))
 
 -- "then records 0003" and 0004, "in the order of the EF.OD entries that name a path"
-unfoldable pub files : List Name → Part
-files [] = empty
-files (n ∷ ns) = file n and files ns
+unfoldable pub files : ℕ → List Name → Part
+files n [] = empty
+files n (m ∷ ms) = file n m and files (n + 1) ms
 
 -- "EF.DIR comes with the dump": "application templates", other elements, fill
 abbrev pub templates : Part
@@ -75,7 +76,7 @@ abbrev pub framedDir : Part
 framedDir = record {
   Of = templates .Of;
   bytes = λ x. recordBytes 5 (templates .bytes x);
-  book = templates .book;
+  book = λ _. templates .book origin;
   Meets = λ x. templates .Meets x × (length (templates .bytes x) ≤ 16383);
 }
 
@@ -87,31 +88,31 @@ pub record Card : Type 0 where
   pub dir : efDir .Of
   pub info : cia .Of
   pub main : od .Of
-  pub dirs : files (namesOf main) .Of
+  pub dirs : files 1 (namesOf main) .Of
 
 -- "one record of kind 0001 (CIAInfo), one 0002 (EF.OD), then records 0003" and 0004; 0005 before them
 abbrev pub dumpOf : Card → List ℕ
-dumpOf c = efDir .bytes (c .dir) ++ (recordBytes 1 (cia .bytes (c .info)) ++ (recordBytes 2 (od .bytes (c .main)) ++ files (namesOf (c .main)) .bytes (c .dirs)))
+dumpOf c = efDir .bytes (c .dir) ++ (recordBytes 1 (cia .bytes (c .info)) ++ (recordBytes 2 (od .bytes (c .main)) ++ files 1 (namesOf (c .main)) .bytes (c .dirs)))
 
 abbrev pub bookOf : Card → List Rec
-bookOf c = (cia .book (c .info) ++ (od .book (c .main) ++ files (namesOf (c .main)) .book (c .dirs))) ++ efDir .book (c .dir)
+bookOf c = (cia .book origin (c .info) ++ (od .book origin (c .main) ++ files 1 (namesOf (c .main)) .book origin (c .dirs))) ++ efDir .book origin (c .dir)
 
--- an object: its entry's tag, and what it is
+-- an object: its entry's tag, what it is, and where it stands in its file
 abbrev pub Object : Type 0
-Object = (entry : ℕ) × entries.object entry .part .Of
+Object = (entry : ℕ) × entries.object entry .part .Of × Where
 
 -- its records, from its 0120 on
 abbrev pub recordsOf : Object → List Rec
-recordsOf (entry, object) = entries.object entry .part .book object
+recordsOf (entry, object, v) = entries.object entry .part .book v object
 
--- "Book 0120: entry tag, object tag", and the records behind it
+-- "Book 0120: entry tag, object tag", "a 2-byte file number .. and a 2-byte offset", and the records behind it
 unfoldable pub front : Object → List ℕ
 unfolding entries.object
-front (entry, (tag, contents)) = entry ∷ tag ∷ []
+front (entry, (tag, contents), v) = entry ∷ tag ∷ numbers v
 
 unfoldable pub behind : Object → List Rec
 unfolding entries.object
-behind (entry, (tag, contents)) = layouts.contents entry tag .part .book contents
+behind (entry, (tag, contents), v) = layouts.contents entry tag .part .book (into v (low tag (layouts.contents entry tag .part .bytes contents))) contents
 
 -- "contents common 30, class 30, subclass A0?, type A1"
 unfoldable pub commonPart : (entry : ℕ) → entries.object entry .part .Of → layouts.common .part .Of
@@ -123,28 +124,33 @@ unfolding entries.object layouts.contents
 classPart entry (tag, (((common, class), subclass), type)) = class
 
 -- the objects of a card, "numbered from 0 in book order": those in EF.OD, then those of the files
-abbrev pub under : (t : ℕ) → List (entries.object t .part .Of) → List Object
-under t os = map (λ o. (t, o)) os
+abbrev pub under : (t : ℕ) → Where → List (entries.object t .part .Of) → List Object
+under t = each (entries.object t .part .bytes) (λ v o. (t, o, v) ∷ [])
 
-abbrev pub inEntry : entries.item .Of → List Object
-inEntry (inl (t, inl path)) = []
-inEntry (inl (t, inr objects)) = under t objects
-inEntry (inr unknown) = []
+-- inside the entry, inside its A0
+abbrev pub inEntry : Where → entries.item .Of → List Object
+inEntry v (inl (t, inl path)) = []
+inEntry v (inl (t, inr objects)) = under t (into (into v (entries.item .shape (inl (t, inr objects)))) (entries.inline t .shape objects)) objects
+inEntry v (inr unknown) = []
 
-abbrev pub inRecords : (t : ℕ) → linear t .Of → List Object
-inRecords t records = flat (λ r. under t (r .0)) records
+abbrev pub inOd : od .Of → List Object
+inOd (list, fill) = each (grammar.one entries.item .bytes) inEntry origin list
 
-abbrev pub inFile : (t : ℕ) → directory t .Of ⊎ linear t .Of → List Object
-inFile t (inl (objects, fill)) = under t objects
-inFile t (inr records) = inRecords t records
+-- behind the record's length
+abbrev pub inRecords : (t : ℕ) → Where → linear t .Of → List Object
+inRecords t = each (recordIn t .bytes) (λ v r. under t (v on 2) (r .0))
 
-unfoldable pub inFiles : (ns : List Name) → files ns .Of → List Object
+abbrev pub inFile : (t : ℕ) → Where → directory t .Of ⊎ linear t .Of → List Object
+inFile t v (inl (objects, fill)) = under t v objects
+inFile t v (inr records) = inRecords t v records
+
+unfoldable pub inFiles : (n : ℕ) (ms : List Name) → files n ms .Of → List Object
 unfolding files
-inFiles [] x = []
-inFiles (n ∷ ns) (f, x) = inFile (n .tag) f ++ inFiles ns x
+inFiles n [] x = []
+inFiles n (m ∷ ms) (f, x) = inFile (m .tag) (opening n 0) f ++ inFiles (n + 1) ms x
 
 abbrev pub objectsOf : Card → List Object
-objectsOf c = flat inEntry (c .main .0) ++ inFiles (namesOf (c .main)) (c .dirs)
+objectsOf c = inOd (c .main) ++ inFiles 1 (namesOf (c .main)) (c .dirs)
 
 -- an authentication object's "own authId 04? 0150"
 abbrev pub given : Option (List ℕ) → List (List ℕ)
@@ -159,7 +165,7 @@ ownIdIn Containers x = []
 ownIdIn Authentications ((id, references), rest) = given id
 
 abbrev pub ownId : Object → List (List ℕ)
-ownId (entry, object) = ownIdIn (classOf entry) (classPart entry object)
+ownId (entry, object, v) = ownIdIn (classOf entry) (classPart entry object)
 
 -- no two are equal
 abbrev pub NotIn : List ℕ → List (List ℕ) → Type 0
@@ -175,7 +181,7 @@ pub record Meets (c : Card) : Type 0 where
   pub dir : efDir .Meets (c .dir)
   pub info : cia .Meets (c .info)
   pub main : od .Meets (c .main)
-  pub dirs : files (namesOf (c .main)) .Meets (c .dirs)
+  pub dirs : files 1 (namesOf (c .main)) .Meets (c .dirs)
   -- "Dump, at most 32,768 bytes (house)", "A file is at most 16,383 bytes"
   pub dump-size : length (dumpOf c) ≤ 32768
   pub info-size : length (cia .bytes (c .info)) ≤ 16383
@@ -213,4 +219,4 @@ inCommon ((fields, none), rest) = []
 inCommon ((fields, some rules), rest) = inRules rules
 
 abbrev pub identifiers : Object → List (List ℕ)
-identifiers (entry, object) = inCommon (commonPart entry object)
+identifiers (entry, object, v) = inCommon (commonPart entry object)

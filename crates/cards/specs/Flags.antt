@@ -14,7 +14,7 @@ use Rattle.elements.specs.ChoiceLaws.{both-true}
 use Rattle.elements.specs.Lists.{Bytes}
 use Rattle.rules.specs.Reading.{Rec, rec}
 use Rattle.rules.specs.Files.{accepted, readDump}
-use Rattle.rules.specs.Grammar.{fill, flat}
+use Rattle.rules.specs.Grammar.{Where, origin, into, _on_, one, many, fill}
 use Rattle.rules.specs.Rulings.{startsWith, ours, flagOf}
 use Rattle.rules.specs.Pays.{pays, pays-none, lacks}
 use Rattle.rules.specs.Kinds.{fill-only}
@@ -99,29 +99,35 @@ tell-none (r ∷ rs) e = go (eqb (r .kind) 0x0201) refl e (tell-none rs)
     go false q z i = ((λ k. absurd (eqb-false (r .kind) 0x0201 q k)), i z)
 
 -- a template
-template-tells : (x : layouts.template .part .Of) → AllTell (layouts.template .part .book x)
+template-tells : (v : Where) (x : layouts.template .part .Of) → AllTell (layouts.template .part .book v x)
 unfolding AllTell layouts.template layouts.discretionary layouts.pathFrom
-template-tells (((aid, fields), inner), others) = ((λ _. (refl, refl)), tell-none (layouts.templateParts .part .book (((aid, fields), inner), others)) (pays-none 0x0201 (layouts.templateParts .all) tt (layouts.templateParts .only (((aid, fields), inner), others))))
+template-tells v (((aid, fields), inner), others) = ((λ _. (refl, refl)), tell-none (layouts.templateParts .part .book v (((aid, fields), inner), others)) (pays-none 0x0201 (layouts.templateParts .all) tt (layouts.templateParts .only v (((aid, fields), inner), others))))
 
-items-tell : (xs : List (filing.dirItem .Of)) → AllTell (flat (filing.dirItem .book) xs)
+items-tell : (v : Where) (xs : List (filing.dirItem .Of)) → AllTell (many (one filing.dirItem) .book v xs)
 unfolding AllTell
-items-tell [] = tt
-items-tell (inl x ∷ xs) = tell-append (layouts.template .part .book x) (flat (filing.dirItem .book) xs) (template-tells x) (items-tell xs)
-items-tell (inr x ∷ xs) = ((λ e. absurd (omega arith)), items-tell xs)
+items-tell v [] = tt
+items-tell v (inl x ∷ xs) =
+    let i = into v (filing.dirItem .shape (inl x)) in
+    let j = v on length (one filing.dirItem .bytes (inl x)) in
+    tell-append (layouts.template .part .book i x) (many (one filing.dirItem) .book j xs) (template-tells i x) (items-tell j xs)
+items-tell v (inr x ∷ xs) = ((λ e. absurd (omega arith)), items-tell (v on length (one filing.dirItem .bytes (inr x))) xs)
 
 -- EF.DIR
-dir-tells : (x : card.efDir .Of) → AllTell (card.efDir .book x)
+dir-tells : (v : Where) (x : card.efDir .Of) → AllTell (card.efDir .book v x)
 unfolding AllTell
-dir-tells none = tt
-dir-tells (some (items, filling)) = ((λ e. absurd (omega arith)), tell-append (flat (filing.dirItem .book) items) (fill 0x0212 .book filling) (items-tell items) (tell-none (fill 0x0212 .book filling) (pays-none 0x0201 (0x0212 ∷ []) tt (fill-only 0x0212 filling))))
+dir-tells v none = tt
+dir-tells v (some (items, filling)) = ((λ e. absurd (omega arith)), tell-append (many (one filing.dirItem) .book origin items) (fill 0x0212 .book v filling) (items-tell origin items) (tell-none (fill 0x0212 .book v filling) (pays-none 0x0201 (0x0212 ∷ []) tt (fill-only 0x0212 v filling))))
 
 -- the others have none
-others-tell : (c : Card) → AllTell (card.cia .book (c .info) ++ (card.od .book (c .main) ++ card.files (card.namesOf (c .main)) .book (c .dirs)))
+abbrev others : Card → List Rec
+others c = card.cia .book origin (c .info) ++ (card.od .book origin (c .main) ++ card.files 1 (card.namesOf (c .main)) .book origin (c .dirs))
+
+others-tell : (c : Card) → AllTell (others c)
 unfolding layouts.cia layouts.info
 others-tell c =
-    let others = card.od .book (c .main) ++ card.files (card.namesOf (c .main)) .book (c .dirs) in
-    tell-append (card.cia .book (c .info)) others (tell-none (card.cia .book (c .info)) (lacks 0x0201 layouts.cia tt (c .info)))
-    (tell-none others (card-pays 0x0201 (λ _. []) (λ o. in-none 0x0201 refl refl o) refl refl (refl, refl, refl) (c .main) (card.namesOf (c .main)) (c .dirs) ∙ nothing-flat (card.objectsOf c)))
+    let more = card.od .book origin (c .main) ++ card.files 1 (card.namesOf (c .main)) .book origin (c .dirs) in
+    tell-append (card.cia .book origin (c .info)) more (tell-none (card.cia .book origin (c .info)) (lacks 0x0201 layouts.cia tt origin (c .info)))
+    (tell-none more (card-pays 0x0201 (λ _. []) (λ o. in-none 0x0201 refl refl o) refl refl (refl, refl, refl) (c .main) (card.namesOf (c .main)) (c .dirs) ∙ nothing-flat (card.objectsOf c)))
 
 tells-at : (us vs : List Rec) (p : List ℕ) → AllTell (us ++ rec 0x0201 p ∷ vs) → FlagTold p vs
 unfolding AllTell
@@ -134,4 +140,4 @@ pub flag-told : (d : List ℕ) → Bytes d → (us vs : List Rec) (p : List ℕ)
 flag-told d bytes us vs p e =
     let c = accepted-card d (us ++ rec 0x0201 p ∷ vs) bytes e in
     let x = c .it in
-    tells-at us vs p (subst AllTell (c .book) (tell-append (card.cia .book (x .info) ++ (card.od .book (x .main) ++ card.files (card.namesOf (x .main)) .book (x .dirs))) (card.efDir .book (x .dir)) (others-tell x) (dir-tells (x .dir))))
+    tells-at us vs p (subst AllTell (c .book) (tell-append (others x) (card.efDir .book origin (x .dir)) (others-tell x) (dir-tells origin (x .dir))))

@@ -13,3 +13,4 @@ pub mod Demand2
 pub mod CardExample
 pub mod Without
 pub mod Flags
+pub mod Jumps

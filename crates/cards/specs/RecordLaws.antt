@@ -14,42 +14,44 @@ use Rattle.rules.specs.Reading.{Rec, rec, Res, took, also, Reader}
 use Rattle.rules.specs.Parts.{counted, repeat, toEnd, inside}
 use Rattle.rules.specs.Files as files
 use Rattle.rules.specs.Files.{two, recordEnd, fits, linear}
-use Rattle.rules.specs.Grammar.{many, AllMeet, flat}
+use Rattle.rules.specs.declared.site.Site.{Site}
+use Rattle.rules.specs.Grammar.{siteOf, here, opening, many, total, AllMeet, flat}
 use Rattle.rules.specs.ElementLaws.{is-end, parted}
-use Rattle.rules.specs.GrammarLaws.{close, marks-append, Reads, refuses, takes, Facts, Goes, BodyLaw}
-use Rattle.rules.specs.ItemLaws.{recount-body, behind-reads, behind-goes}
+use Rattle.rules.specs.GrammarLaws.{close, marks-append, Reads, refuses, takes, Facts, reached, Goes, BodyLaw}
+use Rattle.rules.specs.ItemLaws.{behind-reads, behind-goes}
 use Rattle.rules.specs.ValueLaws.{two-bytes}
+use Rattle.rules.specs.RenderLaws.{home, many-renders, lengthed-renders}
+use Rattle.rules.specs.Layouts as layouts
 use Rattle.rules.specs.Entries as entries
 use Rattle.rules.specs.FileLayouts as filing
 use Rattle.cards.specs.Card as card
-use Rattle.cards.specs.Card.{under, inRecords}
 use Rattle.cards.specs.FrameLaws.{bytes-are, Fit, spent, onto}
-use Rattle.cards.specs.PartLaws.{all-of, count-under}
+use Rattle.cards.specs.PartLaws.{all-of}
 
 -- what fits does not run over
 pub fit-high : {s : List ℕ} {stop at : ℕ} → Fit s stop at → at ≤ stop
 fit-high (spent e) = omega arith
 fit-high (onto h f) = omega arith
 
-module _ (s : List ℕ) (bytes : Bytes s) (small : length s ≤ 32768) (t : ℕ) where
+module _ (site : Site) (s : List ℕ) (bytes : Bytes s) (small : length s ≤ 32768) (t : ℕ) where
   -- a record after k objects
-  record-law : (k : ℕ) → k ≤ 128 → BodyLaw s (inside (files.recordIn s t k)) (filing.recordIn t .part) (λ x. length (under t (x .0))) k 128
+  record-law : (k : ℕ) → k ≤ 128 → BodyLaw site s (inside (files.recordIn s site t k)) (filing.recordIn t .part) (filing.recordIn t .count) k 128
   unfolding files.recordIn entries.object
-  record-law k h = recount-body (λ x. length (under t (x .0))) (λ x. count-under t (x .0)) (filing.recordIn t .lawful (filing.record-fine t) .exact s bytes small k h)
+  record-law k h = filing.recordIn t .lawful (filing.record-fine t) .exact site s bytes small k h
 
   -- it ends where its container does
-  pub record-closes : (k : ℕ) → k ≤ 128 → (end at : ℕ) → at ≤ end → end ≤ length s → {bs : List Rec} {ms : List ℕ} {n : ℕ} → files.recordIn s t k end at ≡ took bs ms n → n ≡ end
-  record-closes k h end at i l {bs} {ms} {n} e = go (subst (Reads s (filing.recordIn t .part) (λ x. length (under t (x .0))) k 128 close end at) e (record-law k h .sound 0 at end (omega arith) i l))
+  pub record-closes : (k : ℕ) → k ≤ 128 → (end at : ℕ) → at ≤ end → end ≤ length s → {bs : List Rec} {ms : List ℕ} {n : ℕ} → files.recordIn s site t k end at ≡ took bs ms n → n ≡ end
+  record-closes k h end at i l {bs} {ms} {n} e = go (subst (Reads site s (filing.recordIn t .part) (filing.recordIn t .count) k 128 close end at) e (record-law k h .sound 0 at end (omega arith) i l))
     where
-      go : Reads s (filing.recordIn t .part) (λ x. length (under t (x .0))) k 128 close end at (took bs ms n) → n ≡ end
+      go : Reads site s (filing.recordIn t .part) (filing.recordIn t .count) k 128 close end at (took bs ms n) → n ≡ end
       go (takes x) = x .closes tt
 
   -- the record at a place
   abbrev recordAt : ℕ → Reader
-  recordAt j _ i = files.recordIn s t j (recordEnd s i) (i + 2)
+  recordAt j _ i = files.recordIn s site t j (recordEnd s i) (i + 2)
 
   abbrev Records : (stop k at : ℕ) → Res → Type 0
-  Records stop k at r = Reads s (many (card.recordIn t)) (λ x. length (inRecords t x)) k 128 close stop at r
+  Records stop k at r = Reads site s (many (card.recordIn t)) (total (filing.recordIn t .count)) k 128 close stop at r
 
   -- the bytes of a record, its length in front
   record-bytes : (at : ℕ) → recordEnd s at ≤ length s → slice at (recordEnd s at) s ≡ le16 (length (slice (at + 2) (recordEnd s at) s)) ++ slice (at + 2) (recordEnd s at) s
@@ -61,13 +63,12 @@ module _ (s : List ℕ) (bytes : Bytes s) (small : length s ≤ 32768) (t : ℕ)
       cons s at e (omega arith) l ∙ rw (cons s (at + 1) e (omega arith) l, z, n, b .0, b .1) refl
 
   -- one record before the others
-  records-more : {stop k at : ℕ} → recordEnd s at ≤ stop → stop ≤ length s → {bs : List Rec} {ms : List ℕ} {n : ℕ} → Facts s (filing.recordIn t .part) (λ x. length (under t (x .0))) k 128 close (recordEnd s at) (at + 2) bs ms n →
+  records-more : {stop k at : ℕ} → recordEnd s at ≤ stop → stop ≤ length s → {bs : List Rec} {ms : List ℕ} {n : ℕ} → Facts site s (filing.recordIn t .part) (filing.recordIn t .count) k 128 close (recordEnd s at) (at + 2) bs ms n →
       {r : Res} → Records stop (k + length ms) n r → Records stop k at (also bs ms r)
   records-more h l x (refuses p o) = refuses p o
   records-more {stop} {k} {at} h l {bs} {ms} {n} x (takes {rs = ds} {ms = ns} {n = m} d) =
       let e = recordEnd s at in
       let z : n ≡ e = x .closes tt in
-      let c = length-append (under t (x .it .0)) (inRecords t (d .it)) in
       let y : slice (at + 2) e s ≡ filing.recordIn t .part .bytes (x .it) = all-of x in
       takes {rs = bs ++ ds} {ms = ms ++ ns} {n = m} (record {
         it = x .it ∷ d .it;
@@ -75,7 +76,10 @@ module _ (s : List ℕ) (bytes : Bytes s) (small : length s ≤ 32768) (t : ℕ)
         low = omega (arith, x .low, d .low);
         high = d .high;
         bytes = sym (join at e stop s (omega arith) h) ∙ rw (record-bytes at (omega arith), y, ← z, d .bytes, append-assoc) refl;
-        book = rw (x .book, d .book) refl;
+        book =
+            let b = filing.recordIn t .part .book (here site (at + 2)) (x .it) in
+            let i : n ≡ at + length (card.recordIn t .bytes (x .it)) = omega (arith, reached (omega arith) x) in
+            rw (x .book, d .book) (ap (λ j. b ++ many (card.recordIn t) .book (here site j) (d .it)) i);
         counted = length-append ms ns ∙ omega (arith, x .counted, d .counted);
         marks = marks-append (length s) ms ns (x .marks) (d .marks);
         room = omega (arith, d .room, x .counted);
@@ -98,7 +102,7 @@ module _ (s : List ℕ) (bytes : Bytes s) (small : length s ≤ 32768) (t : ℕ)
       let e = recordEnd s at in
       rw (lt-ltb at stop h) (by-record (record-law k i .sound 0 (at + 2) e (omega arith) (omega arith) (omega (arith, fit-high f))) (λ j o. records-sound f l g j o (omega arith)))
     where
-      by-record : {r : Res} → Reads s (filing.recordIn t .part) (λ x. length (under t (x .0))) k 128 close (recordEnd s at) (at + 2) r →
+      by-record : {r : Res} → Reads site s (filing.recordIn t .part) (filing.recordIn t .count) k 128 close (recordEnd s at) (at + 2) r →
           ((j : ℕ) → j ≤ 128 → Records stop j (recordEnd s at) (repeat toEnd recordAt g j stop (recordEnd s at))) → Records stop k at (counted r (λ c n. repeat toEnd recordAt g (k + c) stop n))
       by-record (refuses p o) more = refuses p o
       by-record (takes {ms = ms} {n = n} x) more = let z : n ≡ recordEnd s at = x .closes tt in records-more (fit-high f) l x {r = repeat toEnd recordAt g (k + length ms) stop n} (rw z (more (k + length ms) (omega (arith, x .room, x .counted))))
@@ -106,7 +110,7 @@ module _ (s : List ℕ) (bytes : Bytes s) (small : length s ≤ 32768) (t : ℕ)
   -- a card's records stand there: they fit, and they are read
   record RecordsGo (stop at : ℕ) (xs : card.linear t .Of) : Type 0 where
     fit : (g : ℕ) → stop - at ≤ g → fits s g stop at ≡ true
-    goes : (g k : ℕ) → stop - at ≤ g → k + length (inRecords t xs) ≤ 128 → Goes s stop at (flat (card.recordIn t .book) xs) (length (inRecords t xs)) [] (repeat toEnd recordAt g k stop at)
+    goes : (g k : ℕ) → stop - at ≤ g → k + total (filing.recordIn t .count) xs ≤ 128 → Goes s stop at (many (card.recordIn t) .book (here site at) xs) (total (filing.recordIn t .count) xs) [] (repeat toEnd recordAt g k stop at)
 
   records-complete : (stop : ℕ) → stop ≤ length s → (xs : card.linear t .Of) → AllMeet (card.recordIn t .Meets) xs → (at : ℕ) → at ≤ stop → slice at stop s ≡ flat (card.recordIn t .bytes) xs → RecordsGo stop at xs
   unfolding fits repeat
@@ -144,34 +148,40 @@ module _ (s : List ℕ) (bytes : Bytes s) (small : length s ≤ 32768) (t : ℕ)
       fitting zero m v o f = absurd (omega arith)
       fitting (suc g) m v o f = rw (lt-ltb at stop o, v) (f g (omega arith))
 
-      going : (g k : ℕ) → stop - at ≤ g → k + length (inRecords t (x ∷ xs)) ≤ 128 → recordEnd s at ≡ at + 2 + n → at < stop → at + 2 + n ≤ stop → slice (at + 2) (at + 2 + n) s ≡ filing.recordIn t .part .bytes x → RecordsGo stop (at + 2 + n) xs →
-          Goes s stop at (flat (card.recordIn t .book) (x ∷ xs)) (length (inRecords t (x ∷ xs))) [] (repeat toEnd recordAt g k stop at)
+      going : (g k : ℕ) → stop - at ≤ g → k + total (filing.recordIn t .count) (x ∷ xs) ≤ 128 → recordEnd s at ≡ at + 2 + n → at < stop → at + 2 + n ≤ stop → slice (at + 2) (at + 2 + n) s ≡ filing.recordIn t .part .bytes x → RecordsGo stop (at + 2 + n) xs →
+          Goes s stop at (many (card.recordIn t) .book (here site at) (x ∷ xs)) (total (filing.recordIn t .count) (x ∷ xs)) [] (repeat toEnd recordAt g k stop at)
       going zero k m r v o i q d = absurd (omega arith)
       going (suc g) k m r v o i q d =
-          let c = length-append (under t (x .0)) (inRecords t xs) in
           let a = record-law k (omega arith) .complete 0 (at + 2) (at + 2 + n) (omega arith) (omega arith) (omega arith) x (y .0) (omega arith) q in
           let j : a .n ≡ at + 2 + n = is-end s (a .n) (at + 2 + n) (a .high) (omega arith) (a .left) in
-          let first : files.recordIn s t k (recordEnd s at) (at + 2) ≡ took (filing.recordIn t .part .book x) (a .ms) (at + 2 + n) = rw v (a .is ∙ ap (took (filing.recordIn t .part .book x) (a .ms)) j) in
+          let first : files.recordIn s site t k (recordEnd s at) (at + 2) ≡ took (filing.recordIn t .part .book (here site (at + 2)) x) (a .ms) (at + 2 + n) = rw v (a .is ∙ ap (took (filing.recordIn t .part .book (here site (at + 2)) x) (a .ms)) j) in
+          let z : at + 2 + n ≡ at + length (card.recordIn t .bytes x) = omega arith in
           let u = d .goes g (k + length (a .ms)) (omega arith) (omega (arith, a .counted)) in
           record {
             ms = a .ms ++ u .ms;
             n = u .n;
-            is = rw (lt-ltb at stop o, first, u .is) refl;
+            is = rw (lt-ltb at stop o, first, u .is) (ap (λ i. took (filing.recordIn t .part .book (here site (at + 2)) x ++ many (card.recordIn t) .book (here site i) xs) (a .ms ++ u .ms) (u .n)) z);
             counted = length-append (a .ms) (u .ms) ∙ omega (arith, a .counted, u .counted);
             low = omega (arith, u .low);
             high = u .high;
             left = u .left;
           }
 
-  -- a record file is read as it is, if its records fit
-  pub linear-sound : {stop at : ℕ} → Fit s stop at → stop ≤ length s → (k : ℕ) → k ≤ 128 → Reads s (card.linear t) (λ x. length (inRecords t x)) k 128 close stop at (linear s t k stop at)
+-- its records are the same wherever it starts
+pub linear-home : (t n p : ℕ) (xs : card.linear t .Of) → card.linear t .book (opening n p) xs ≡ card.linear t .book (opening n 0) xs
+unfolding entries.object layouts.insides
+linear-home t n p xs = rw (home (many-renders {P = card.recordIn t} tt (lengthed-renders tt (filing.recordIn t .lawful (filing.record-fine t) .renders))) n p xs) refl
+
+-- a record file, the nth, is read as it is, if its records fit
+module _ (s : List ℕ) (bytes : Bytes s) (small : length s ≤ 32768) (n t : ℕ) where
+  pub linear-sound : {stop at : ℕ} → Fit s stop at → stop ≤ length s → (k : ℕ) → k ≤ 128 → Reads (siteOf n at) s (card.linear t) (total (filing.recordIn t .count)) k 128 close stop at (linear s n t k stop at)
   unfolding linear
-  linear-sound {stop} {at} f l k h = behind-reads (rec 0x0119 []) (records-sound f l (stop - at) k h (le-refl (stop - at)))
+  linear-sound {stop} {at} f l k h = behind-reads (rec 0x0119 []) (records-sound (siteOf n at) s bytes small t f l (stop - at) k h (le-refl (stop - at)))
 
   -- and a card's fits, and is read
   pub linear-complete : (stop at : ℕ) → at ≤ stop → stop ≤ length s → (xs : card.linear t .Of) → card.linear t .Meets xs → slice at stop s ≡ card.linear t .bytes xs →
-      (fits s (stop - at) stop at ≡ true) × ((k : ℕ) → k + length (inRecords t xs) ≤ 128 → Goes s stop at (card.linear t .book xs) (length (inRecords t xs)) [] (linear s t k stop at))
+      (fits s (stop - at) stop at ≡ true) × ((k : ℕ) → k + total (filing.recordIn t .count) xs ≤ 128 → Goes s stop at (card.linear t .book (opening n at) xs) (total (filing.recordIn t .count) xs) [] (linear s n t k stop at))
   unfolding linear
   linear-complete stop at h l xs y e =
-      let d = records-complete stop l xs y at h e in
+      let d = records-complete (siteOf n at) s bytes small t stop l xs y at h e in
       (d .fit (stop - at) (le-refl (stop - at)), (λ k r. behind-goes (rec 0x0119 []) (d .goes (stop - at) k (le-refl (stop - at)) r)))

@@ -4,6 +4,7 @@ use mathlib.Core.List.{_++_, append-nil}
 use mathlib.Core.Option.{none}
 use native.Mathlib.Omega.{arith}
 use lib.ListN.{length-append}
+use Rattle.rules.specs.Grammar.{origin}
 use Rattle.cards.specs.Card as card
 use Rattle.cards.specs.Card.{Card, dumpOf, bookOf, Meets}
 
@@ -16,8 +17,8 @@ pub dump-without : (c : Card) → dumpOf c ≡ card.efDir .bytes (c .dir) ++ dum
 dump-without c = refl
 
 -- "Its book records .. come after all others"
-pub book-without : (c : Card) → bookOf c ≡ bookOf (without c) ++ card.efDir .book (c .dir)
-book-without c = rw (append-nil (card.cia .book (c .info) ++ (card.od .book (c .main) ++ card.files (card.namesOf (c .main)) .book (c .dirs)))) refl
+pub book-without : (c : Card) → bookOf c ≡ bookOf (without c) ++ card.efDir .book origin (c .dir)
+book-without c = rw (append-nil (card.cia .book origin (c .info) ++ (card.od .book origin (c .main) ++ card.files 1 (card.namesOf (c .main)) .book origin (c .dirs)))) refl
 
 -- it meets what a card has to meet
 pub meets-without : (c : Card) → Meets c → Meets (without c)

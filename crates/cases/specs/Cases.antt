@@ -82,9 +82,9 @@ table =
     -- 20000229000000Z holds, 19000229000000Z does not
     case (P 10) (elementRead Time 0x18 (0x18 ∷ 0x0f ∷ 50 ∷ 48 ∷ 48 ∷ 48 ∷ 48 ∷ 50 ∷ 50 ∷ 57 ∷ 48 ∷ 48 ∷ 48 ∷ 48 ∷ 48 ∷ 48 ∷ 90 ∷ [])) (is 0 17) ∷
     case (P 10) (elementRead Time 0x18 (0x18 ∷ 0x0f ∷ 49 ∷ 57 ∷ 48 ∷ 48 ∷ 48 ∷ 50 ∷ 50 ∷ 57 ∷ 48 ∷ 48 ∷ 48 ∷ 48 ∷ 48 ∷ 48 ∷ 90 ∷ [])) (refused 66 0) ∷
-    case Shared (shown (reading shared)) (accepted 126) ∷
-    -- "auth 0 42 1", "cert 0 47 -", "auth 1 84 -"
-    case Shared (linked (reading shared)) (rows (1 ∷ 0 ∷ 42 ∷ 1 ∷ 3 ∷ 0 ∷ 47 ∷ 4294967295 ∷ 1 ∷ 1 ∷ 84 ∷ 4294967295 ∷ [])) ∷
+    case Shared (shown (reading shared)) (accepted 134) ∷
+    -- "auth 0 46 1", "cert 0 51 -", "auth 1 92 -"
+    case Shared (linked (reading shared)) (rows (1 ∷ 0 ∷ 46 ∷ 1 ∷ 3 ∷ 0 ∷ 51 ∷ 4294967295 ∷ 1 ∷ 1 ∷ 92 ∷ 4294967295 ∷ [])) ∷
     []
 
 -- every case is answered so

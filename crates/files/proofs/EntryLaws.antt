@@ -32,6 +32,8 @@ use Rattle.rules.specs.declared.table.Need.the-variants.{Required}
 use Rattle.rules.specs.Reading.{Rec, rec, Res, took, fails, also, _then_, Reader, Body}
 use Rattle.rules.specs.Parts.{repeat, element, component, due, ended, surplus, keep, innerRun, sealed}
 use Rattle.rules.specs.Files.{toFill, fill, namedPath, entryInside, entryBody, od, namesOf, paths}
+use Rattle.rules.specs.declared.site.Site.{Site}
+use Rattle.rules.specs.Grammar.{siteOf}
 use Rattle.rules.specs.Book.{encode}
 use Rattle.rules.specs.LookLaws.{Laid, laid-append}
 use Rattle.rules.specs.BookLaws.{book-size}
@@ -121,29 +123,29 @@ module _ (s : List ℕ) (g : ℕ → Body) (end at k : ℕ) {h : Head} (i : h �
   element-objects q d = rw (by-header s g end at i, sym i ∙ q) (objects-widen d (omega (arith, header-in s at end (sym i ∙ q) .0)) (header-in s at end (sym i ∙ q) .2))
 
 -- what stands in an entry
-module _ (s : List ℕ) (entry k t at x e : ℕ) {a b u v : List ℕ} {o : ℕ} {r : Many} where
-  pub in-path : t ≡ 0x30 → DidObjects a b u v o x e k ((component s 0x04 Required (namedPath s entry) then ended s) e x) r → DidObjects a b u v o x e k (entryInside s entry k t at x e) r
+module _ (site : Site) (s : List ℕ) (entry k t at x e : ℕ) {a b u v : List ℕ} {o : ℕ} {r : Many} where
+  pub in-path : t ≡ 0x30 → DidObjects a b u v o x e k ((component s 0x04 Required (namedPath s entry) then ended s) e x) r → DidObjects a b u v o x e k (entryInside site s entry k t at x e) r
   unfolding entryInside
   in-path z d = rw z d
 
-  pub in-objects : t ≡ 0xa0 → DidObjects a b u v o x e k (also (rec 0x0110 (entry ∷ 1 ∷ []) ∷ []) [] (objectsIn s holder.List entry k e x)) r → DidObjects a b u v o x e k (entryInside s entry k t at x e) r
+  pub in-objects : t ≡ 0xa0 → DidObjects a b u v o x e k (also (rec 0x0110 (entry ∷ 1 ∷ []) ∷ []) [] (objectsIn s holder.List site entry k e x)) r → DidObjects a b u v o x e k (entryInside site s entry k t at x e) r
   unfolding entryInside
   in-objects z d = rw z d
 
-  pub body-known : {y : Bool} → y ≡ (leb 0xa0 t && leb t 0xa8) → y ≡ true → DidObjects a b u v o x e k ((element s (entryInside s t k) then ended s) e x) r → DidObjects a b u v o x e k (entryBody s k t at x e) r
+  pub body-known : {y : Bool} → y ≡ (leb 0xa0 t && leb t 0xa8) → y ≡ true → DidObjects a b u v o x e k ((element s (entryInside site s t k) then ended s) e x) r → DidObjects a b u v o x e k (entryBody site s k t at x e) r
   unfolding entryBody
   body-known m z d = rw (sym m ∙ z) d
 
-  pub body-context : {y w : Bool} → y ≡ (leb 0xa0 t && leb t 0xa8) → y ≡ false → w ≡ (leb 0x80 t && leb t 0xbf) → w ≡ true → DidObjects a b u v o x e k (sealed s 0x0110 (t ∷ 2 ∷ []) t at x e) r → DidObjects a b u v o x e k (entryBody s k t at x e) r
+  pub body-context : {y w : Bool} → y ≡ (leb 0xa0 t && leb t 0xa8) → y ≡ false → w ≡ (leb 0x80 t && leb t 0xbf) → w ≡ true → DidObjects a b u v o x e k (sealed s 0x0110 (t ∷ 2 ∷ []) t at x e) r → DidObjects a b u v o x e k (entryBody site s k t at x e) r
   unfolding entryBody
   body-context m z n y d = rw (sym m ∙ z, sym n ∙ y) d
 
-module _ (s : List ℕ) (entry k t at x e : ℕ) (a u : List ℕ) (o : ℕ) where
-  pub in-other : (t ≡ 0x30 → ⊥) → (t ≡ 0xa0 → ⊥) → DidObjects a a u u o x e k (entryInside s entry k t at x e) (many.Fails NotDue at)
+module _ (site : Site) (s : List ℕ) (entry k t at x e : ℕ) (a u : List ℕ) (o : ℕ) where
+  pub in-other : (t ≡ 0x30 → ⊥) → (t ≡ 0xa0 → ⊥) → DidObjects a a u u o x e k (entryInside site s entry k t at x e) (many.Fails NotDue at)
   unfolding entryInside
   in-other z y = rw (ne-eqb t 0x30 z, ne-eqb t 0xa0 y) (fellObjects refl refl)
 
-  pub body-neither : {y w : Bool} → y ≡ (leb 0xa0 t && leb t 0xa8) → y ≡ false → w ≡ (leb 0x80 t && leb t 0xbf) → w ≡ false → DidObjects a a u u o x e k (entryBody s k t at x e) (many.Fails NotDue at)
+  pub body-neither : {y w : Bool} → y ≡ (leb 0xa0 t && leb t 0xa8) → y ≡ false → w ≡ (leb 0x80 t && leb t 0xbf) → w ≡ false → DidObjects a a u u o x e k (entryBody site s k t at x e) (many.Fails NotDue at)
   unfolding entryBody
   body-neither m z n y = rw (sym m ∙ z, sym n ∙ y) (fellObjects refl refl)
 
@@ -161,11 +163,11 @@ pub forward-none : (at : ℕ) (f : Fault) (p : ℕ) → ForwardMany at (many.Fai
 forward-none at f p = record { is = λ n q j t. let z : _≡_ {A = ℕ} 0 1 = cc in absurd (omega arith) }
 
 -- EF.OD's entries
-abbrev entriesOf : List ℕ → ℕ → Reader
-entriesOf s k = element s (entryBody s k)
+abbrev entriesOf : Site → List ℕ → ℕ → Reader
+entriesOf site s k = element s (entryBody site s k)
 
-abbrev allEntries : List ℕ → ℕ → ℕ → Res
-allEntries s end at = repeat (toFill s) (entriesOf s) (end - at) 0 end at
+abbrev allEntries : Site → List ℕ → ℕ → ℕ → Res
+allEntries site s end at = repeat (toFill s) (entriesOf site s) (end - at) 0 end at
 
 -- EF.OD lies from `at` to `end`, and its records have room in a from o on
 pub record Ready (s a : List ℕ) (end at o : ℕ) : Type 0 where
@@ -176,9 +178,9 @@ pub record Ready (s a : List ℕ) (end at o : ℕ) : Type 0 where
   pub wide : 131072 ≤ length a
 
 -- the loop over them: what was read, laid out and named so far, and what is left
-pub record Listing (s a b u v : List ℕ) (end at o k n p again : ℕ) : Type 0 where
+pub record Listing (site : Site) (s a b u v : List ℕ) (end at o k n p again : ℕ) : Type 0 where
   pub ready : Ready s a end at o
-  pub going : Going (toFill s) (entriesOf s) a b end at o 0 k n p
+  pub going : Going (toFill s) (entriesOf site s) a b end at o 0 k n p
   pub laid : Laid (length s) (going .bs)
   pub bound : p + 3 ≤ 4 * n
   pub naming : Naming s end at n (paths (namesOf (going .bs))) again
@@ -190,11 +192,11 @@ pub record Listing (s a b u v : List ℕ) (end at o k n p again : ℕ) : Type 0 
   pub same : length b ≡ length a
   pub kept : length v ≡ length u
 
-pub entries-start : {s a : List ℕ} {end at o : ℕ} (u : List ℕ) → Ready s a end at o → at ≤ end → o ≤ 8 * at + 131072 → Listing s a a u u end at o 0 at o 0
+pub entries-start : {site : Site} {s a : List ℕ} {end at o : ℕ} (u : List ℕ) → Ready s a end at o → at ≤ end → o ≤ 8 * at + 131072 → Listing site s a a u u end at o 0 at o 0
 unfolding going-none namesOf
-entries-start {s} {a} {end} {at} {o} u r i l = record {
+entries-start {site} {s} {a} {end} {at} {o} u r i l = record {
   ready = r;
-  going = going-none (toFill s) (entriesOf s) a end at o 0 i l;
+  going = going-none (toFill s) (entriesOf site s) a end at o 0 i l;
   laid = tt;
   bound = r .room;
   naming = naming-start s end at (r .inside);
@@ -211,10 +213,10 @@ entries-start {s} {a} {end} {at} {o} u r i l = record {
 pub entries-fell : {s a b u v : List ℕ} {o at end : ℕ} {w : Res} {f : Fault} {p : ℕ} → DidObjects a b u v o at end 0 w (many.Fails f p) → DidEntries s a b u v o at end w (list.Fails f p)
 entries-fell d = record { objects = d; told = λ _ e. let z : _≡_ {A = ℕ} 0 1 = cc in absurd (omega arith) }
 
-module _ {s a b u v : List ℕ} {end at o k n p again : ℕ} (h : Listing s a b u v end at o k n p again) {t : Bool} (m : t ≡ toFill s end n) where
-  pub entries-all : t ≡ false → DidEntries s a b u v o at end (allEntries s end at) (list.Took n p k again)
+module _ {site : Site} {s a b u v : List ℕ} {end at o k n p again : ℕ} (h : Listing site s a b u v end at o k n p again) {t : Bool} (m : t ≡ toFill s end n) where
+  pub entries-all : t ≡ false → DidEntries s a b u v o at end (allEntries site s end at) (list.Took n p k again)
   entries-all z =
-      let all : allEntries s end at ≡ took (h .going .bs) (h .going .ms) n = going-stop (h .going) (sym m ∙ z) in
+      let all : allEntries site s end at ≡ took (h .going .bs) (h .going .ms) n = going-stop (h .going) (sym m ∙ z) in
       record {
         objects = rw all (didObjects {n = n} (h .going .put) (h .marks) (h .low) (h .high) (h .small) (h .few));
         told = λ {cs} {again = x} y e.
@@ -223,14 +225,14 @@ module _ {s a b u v : List ℕ} {end at o k n p again : ℕ} (h : Listing s a b 
             rw (← bs, ← same) (h .naming .told);
       }
 
-  module _ (z : t ≡ true) {c x : List ℕ} {w : Many} (d : DidObjects b c v x p n end k (element s (entryBody s k) end n) w) where
+  module _ (z : t ≡ true) {c x : List ℕ} {w : Many} (d : DidObjects b c v x p n end k (element s (entryBody site s k) end n) w) where
     before : n < end
     before = more-before s holder.File end n (sym m ∙ z)
 
-    pub entries-broke : {f : Fault} {y : ℕ} → w ≡ many.Fails f y → DidEntries s a c u x o at end (allEntries s end at) (list.Fails f y)
-    entries-broke {f} {y} e = entries-fell (failed (element s (entryBody s k) end n) refl (rw e at d))
+    pub entries-broke : {f : Fault} {y : ℕ} → w ≡ many.Fails f y → DidEntries s a c u x o at end (allEntries site s end at) (list.Fails f y)
+    entries-broke {f} {y} e = entries-fell (failed (element s (entryBody site s k) end n) refl (rw e at d))
       where
-        failed : (r : Res) → element s (entryBody s k) end n ≡ r → DidObjects b c v x p n end k r (many.Fails f y) → DidObjects a c u x o at end 0 (allEntries s end at) (many.Fails f y)
+        failed : (r : Res) → element s (entryBody site s k) end n ≡ r → DidObjects b c v x p n end k r (many.Fails f y) → DidObjects a c u x o at end 0 (allEntries site s end at) (many.Fails f y)
         failed (fails _ _) q (fellObjects l g) = rw (going-break (h .going) (sym m ∙ z) before q) (fellObjects (l ∙ h .same) (g ∙ h .kept))
 
     module _ {r q j : ℕ} (e : w ≡ many.Took r q j) where
@@ -238,7 +240,7 @@ module _ {s a b u v : List ℕ} {end at o k n p again : ℕ} (h : Listing s a b 
       record EntryOpen : Type 0 where
         cs : List Rec
         ns : List ℕ
-        is : element s (entryBody s k) end n ≡ took cs ns r
+        is : element s (entryBody site s k) end n ≡ took cs ns r
         put : Put b c p q (encode cs)
         marks : Put v x k j ns
         told : Entry s end n cs r
@@ -250,7 +252,7 @@ module _ {s a b u v : List ℕ} {end at o k n p again : ℕ} (h : Listing s a b 
       entry-open =
           let y = objects-open (rw e at d) in
           let i = h .ready in
-          let g = entry-told s (i .bytes) (i .short) k end n (h .few) before (i .inside) (y .2) in
+          let g = entry-told site s (i .bytes) (i .short) k end n (h .few) before (i .inside) (y .2) in
           let f = header-in s n end (g .head) in
           let l : q + 3 ≤ 4 * r = omega (arith, h .bound, y .3 .at, book-size (y .0), g .bound) in
           let fits : q ≤ length b = omega (arith, h .same, i .wide, i .short, i .inside) in
@@ -276,7 +278,7 @@ module _ {s a b u v : List ℕ} {end at o k n p again : ℕ} (h : Listing s a b 
         pub entries-less : end - r < end - n
         entries-less = omega (arith, fw .is r q j e, objects-high d e)
 
-        pub entries-next : {again′ : ℕ} → AgainTold c o p n again again′ → Listing s a c u x end at o j r q again′
+        pub entries-next : {again′ : ℕ} → AgainTold c o p n again again′ → Listing site s a c u x end at o j r q again′
         unfolding going-step
         entries-next {again′} l =
             let y = entry-open in
@@ -296,7 +298,7 @@ module _ {s a b u v : List ℕ} {end at o k n p again : ℕ} (h : Listing s a b 
             }
 
 -- EF.OD's file, and a directory file
-module _ {s a b u v : List ℕ} {o at end : ℕ} {w : Entries} (d : DidEntries s a b u v o at end (allEntries s end at) w) where
+module _ {s a b u v : List ℕ} {o at end : ℕ} {w : Entries} (d : DidEntries s a b u v o at end (allEntries (siteOf 0 at) s end at) w) where
   pub od-fails : {f : Fault} {p : ℕ} → w ≡ list.Fails f p → DidEntries s a b u v o at end (od s end at) (list.Fails f p)
   unfolding od
   od-fails z = entries-fell (objects-fails (d .objects) (λ n. fill s 0x0107 end n) (ap objectsOf z))

@@ -1,5 +1,7 @@
 -- What holds objects: a list in EF.OD, a transparent file, a record of a record file.
 use Rattle.rules.specs.Entries as entries
+use Rattle.rules.specs.declared.site.Site.{Site}
+use Rattle.rules.specs.Grammar.{here, numbers}
 use Prim.Native.Nat.{ℕ, _+_, _-_, _*_, _<_, _≤_}
 use mathlib.Core.Path.{_≡_, refl, sym, _∙_}
 use mathlib.Core.Bool.{Bool, true, false, not, _&&_, _||_}
@@ -37,29 +39,29 @@ counts-mark : (at : ℕ) (w : Res) {bs : List Rec} {ms : List ℕ} {n : ℕ} →
 counts-mark at (took cs ns m) z = cc
 counts-mark at (fails f p) z = let y : _≡_ {A = ℕ} 0 1 = cc in absurd (omega arith)
 
-body : (s : List ℕ) (entry t at a e : ℕ) {bs : List Rec} {ms : List ℕ} {n : ℕ} → objectBody s entry t at a e ≡ took bs ms n → ms ≡ at ∷ []
+body : (s : List ℕ) (site : Site) (entry t at a e : ℕ) {bs : List Rec} {ms : List ℕ} {n : ℕ} → objectBody s site entry t at a e ≡ took bs ms n → ms ≡ at ∷ []
 unfolding objectBody
-body s entry t at a e {bs} {ms} {n} = by-choose (λ (w : Res). w ≡ took bs ms n → ms ≡ at ∷ []) (eqb t 0x30 || (leb 0xa0 t && leb t 0xa7)) (λ _ _ z. counts-mark at (also (rec 0x0120 (entry ∷ t ∷ []) ∷ []) [] (contents s entry t e a)) z) (λ _ _ z. absurd (not-took z))
+body s site entry t at a e {bs} {ms} {n} = by-choose (λ (w : Res). w ≡ took bs ms n → ms ≡ at ∷ []) (eqb t 0x30 || (leb 0xa0 t && leb t 0xa7)) (λ _ _ z. counts-mark at (also (rec 0x0120 (entry ∷ t ∷ numbers (here site at)) ∷ []) [] (contents s entry t e a)) z) (λ _ _ z. absurd (not-took z))
 
-pub object-mark : (s : List ℕ) (entry k end at : ℕ) {bs : List Rec} {ms : List ℕ} {n : ℕ} → object s entry k end at ≡ took bs ms n → ms ≡ at ∷ []
+pub object-mark : (s : List ℕ) (site : Site) (entry k end at : ℕ) {bs : List Rec} {ms : List ℕ} {n : ℕ} → object s site entry k end at ≡ took bs ms n → ms ≡ at ∷ []
 unfolding entries.object objectBody element
-object-mark s entry k end at {bs} {ms} {n} =
+object-mark s site entry k end at {bs} {ms} {n} =
     by-choose P (ltb k 128) (λ _ _. by-choose P (ltb at end) (λ _ _. go (header s at end)) (λ _ _ z. absurd (not-took z))) (λ _ _ z. absurd (not-took z))
   where
     P : Res → Type 0
     P w = w ≡ took bs ms n → ms ≡ at ∷ []
 
-    go : (h : Head) → P (whatever (objectBody s entry) at h)
+    go : (h : Head) → P (whatever (objectBody s site entry) at h)
     go (No f p) = λ z. absurd (not-took z)
-    go (At t a e) = body s entry t at a e
+    go (At t a e) = body s site entry t at a e
 
-pub object-few : (s : List ℕ) (entry k end at : ℕ) {bs : List Rec} {ms : List ℕ} {n : ℕ} → object s entry k end at ≡ took bs ms n → k < 128
+pub object-few : (s : List ℕ) (site : Site) (entry k end at : ℕ) {bs : List Rec} {ms : List ℕ} {n : ℕ} → object s site entry k end at ≡ took bs ms n → k < 128
 unfolding entries.object
-object-few s entry k end at {bs} {ms} {n} = by-choose (λ (w : Res). w ≡ took bs ms n → k < 128) (ltb k 128) (λ _ e _. ltb-true k 128 e) (λ _ _ z. absurd (not-took z))
+object-few s site entry k end at {bs} {ms} {n} = by-choose (λ (w : Res). w ≡ took bs ms n → k < 128) (ltb k 128) (λ _ e _. ltb-true k 128 e) (λ _ _ z. absurd (not-took z))
 
 -- the loop over the objects of a holder
-pub record Objects (s : List ℕ) (x : Holder) (entry : ℕ) (a b u v : List ℕ) (end at o k j n p : ℕ) : Type 0 where
-  pub going : Going (moreOf s x) (itemOf s x entry k) a b end at o k j n p
+pub record Objects (s : List ℕ) (x : Holder) (site : Site) (entry : ℕ) (a b u v : List ℕ) (end at o k j n p : ℕ) : Type 0 where
+  pub going : Going (moreOf s x) (itemOf s x site entry k) a b end at o k j n p
   pub marks : Put u v k j (going .ms)
   pub few : j ≤ 128
   pub low : at ≤ n
@@ -68,10 +70,10 @@ pub record Objects (s : List ℕ) (x : Holder) (entry : ℕ) (a b u v : List ℕ
   pub same : length b ≡ length a
   pub kept : length v ≡ length u
 
-pub objects-start : (s : List ℕ) (x : Holder) (entry : ℕ) (a u : List ℕ) (end at o k : ℕ) → k ≤ 128 → at ≤ end → o ≤ 8 * at + 131072 → Objects s x entry a a u u end at o k k at o
+pub objects-start : (s : List ℕ) (x : Holder) (site : Site) (entry : ℕ) (a u : List ℕ) (end at o k : ℕ) → k ≤ 128 → at ≤ end → o ≤ 8 * at + 131072 → Objects s x site entry a a u u end at o k k at o
 unfolding going-none
-objects-start s x entry a u end at o k h i l = record {
-  going = going-none (moreOf s x) (itemOf s x entry k) a end at o k i l;
+objects-start s x site entry a u end at o k h i l = record {
+  going = going-none (moreOf s x) (itemOf s x site entry k) a end at o k i l;
   marks = put-none u k;
   few = h;
   low = omega arith;
@@ -90,49 +92,49 @@ more-before s holder.File end at e = fill-before s end at e
 more-before s holder.Record end at e = fill-before s end at e
 
 -- the next object of a holder that is full, and of one that is not
-full-item : (s : List ℕ) (x : Holder) (entry k j end at : ℕ) → fullOf x k j ≡ true → itemOf s x entry k j end at ≡ fails SecondObject at
-full-item s holder.List entry k j end at e = absurd (let z : _≡_ {A = ℕ} 0 1 = cc in omega arith)
-full-item s holder.File entry k j end at e = absurd (let z : _≡_ {A = ℕ} 0 1 = cc in omega arith)
-full-item s holder.Record entry k j end at e = rw (le-ltb j (k + 1) (omega (arith, ltb-true k j e))) refl
+full-item : (s : List ℕ) (x : Holder) (site : Site) (entry k j end at : ℕ) → fullOf x k j ≡ true → itemOf s x site entry k j end at ≡ fails SecondObject at
+full-item s holder.List site entry k j end at e = absurd (let z : _≡_ {A = ℕ} 0 1 = cc in omega arith)
+full-item s holder.File site entry k j end at e = absurd (let z : _≡_ {A = ℕ} 0 1 = cc in omega arith)
+full-item s holder.Record site entry k j end at e = rw (le-ltb j (k + 1) (omega (arith, ltb-true k j e))) refl
 
-next-item : (s : List ℕ) (x : Holder) (entry k j end at : ℕ) → fullOf x k j ≡ false → itemOf s x entry k j end at ≡ object s entry j end at
-next-item s holder.List entry k j end at e = refl
-next-item s holder.File entry k j end at e = refl
-next-item s holder.Record entry k j end at e = rw (lt-ltb j (k + 1) (omega (arith, ltb-false k j e))) refl
+next-item : (s : List ℕ) (x : Holder) (site : Site) (entry k j end at : ℕ) → fullOf x k j ≡ false → itemOf s x site entry k j end at ≡ object s site entry j end at
+next-item s holder.List site entry k j end at e = refl
+next-item s holder.File site entry k j end at e = refl
+next-item s holder.Record site entry k j end at e = rw (lt-ltb j (k + 1) (omega (arith, ltb-false k j e))) refl
 
-module _ {s : List ℕ} {x : Holder} {entry : ℕ} {a b u v : List ℕ} {end at o k j n p : ℕ} (h : Objects s x entry a b u v end at o k j n p) {t : Bool} (m : t ≡ moreOf s x end n) where
-  pub objects-all : t ≡ false → DidObjects a b u v o at end k (objectsIn s x entry k end at) (many.Took n p j)
+module _ {s : List ℕ} {x : Holder} {site : Site} {entry : ℕ} {a b u v : List ℕ} {end at o k j n p : ℕ} (h : Objects s x site entry a b u v end at o k j n p) {t : Bool} (m : t ≡ moreOf s x end n) where
+  pub objects-all : t ≡ false → DidObjects a b u v o at end k (objectsIn s x site entry k end at) (many.Took n p j)
   objects-all z = rw (going-stop (h .going) (sym m ∙ z)) (didObjects {n = n} (h .going .put) (h .marks) (h .low) (h .high) (h .small) (h .few))
 
   module _ (z : t ≡ true) {y : Bool} (w : y ≡ fullOf x k j) where
     -- one more than it may hold
-    pub objects-second : y ≡ true → DidObjects a b u v o at end k (objectsIn s x entry k end at) (many.Fails SecondObject n)
-    objects-second e = rw (going-break (h .going) (sym m ∙ z) (more-before s x end n (sym m ∙ z)) (full-item s x entry k j end n (sym w ∙ e))) (fellObjects (h .same) (h .kept))
+    pub objects-second : y ≡ true → DidObjects a b u v o at end k (objectsIn s x site entry k end at) (many.Fails SecondObject n)
+    objects-second e = rw (going-break (h .going) (sym m ∙ z) (more-before s x end n (sym m ∙ z)) (full-item s x site entry k j end n (sym w ∙ e))) (fellObjects (h .same) (h .kept))
 
-    module _ (e : y ≡ false) {c : List ℕ} {r : Part} (d : Did b c p n end (object s entry j end n) r) where
-      next : itemOf s x entry k j end n ≡ object s entry j end n
-      next = next-item s x entry k j end n (sym w ∙ e)
+    module _ (e : y ≡ false) {c : List ℕ} {r : Part} (d : Did b c p n end (object s site entry j end n) r) where
+      next : itemOf s x site entry k j end n ≡ object s site entry j end n
+      next = next-item s x site entry k j end n (sym w ∙ e)
 
-      pub objects-broke : {f : Fault} {i : ℕ} → r ≡ Fails f i → DidObjects a c u v o at end k (objectsIn s x entry k end at) (many.Fails f i)
-      objects-broke {f} {i} q = failed (object s entry j end n) next (rw q at d)
+      pub objects-broke : {f : Fault} {i : ℕ} → r ≡ Fails f i → DidObjects a c u v o at end k (objectsIn s x site entry k end at) (many.Fails f i)
+      objects-broke {f} {i} q = failed (object s site entry j end n) next (rw q at d)
         where
-          failed : (g : Res) → itemOf s x entry k j end n ≡ g → Did b c p n end g (Fails f i) → DidObjects a c u v o at end k (objectsIn s x entry k end at) (many.Fails f i)
+          failed : (g : Res) → itemOf s x site entry k j end n ≡ g → Did b c p n end g (Fails f i) → DidObjects a c u v o at end k (objectsIn s x site entry k end at) (many.Fails f i)
           failed (fails _ _) g (fell l) = rw (going-break (h .going) (sym m ∙ z) (more-before s x end n (sym m ∙ z)) g) (fellObjects (l ∙ h .same) (h .kept))
 
       module _ {i q : ℕ} (g : r ≡ Took i q) (fw : Forward n r) where
         pub objects-less : end - i < end - n
         objects-less = omega (arith, fw .is i q g, did-high d g)
 
-        pub objects-next : {v′ : List ℕ} {j′ y′ : ℕ} → Put v v′ j j′ (y′ ∷ []) → y′ ≡ n → Objects s x entry a c u v′ end at o k j′ i q
+        pub objects-next : {v′ : List ℕ} {j′ y′ : ℕ} → Put v v′ j j′ (y′ ∷ []) → y′ ≡ n → Objects s x site entry a c u v′ end at o k j′ i q
         unfolding going-step
         objects-next {v′} {j′} {y′} f l =
             let was = did-open (rw g at d) in
-            let one : was .1 ≡ n ∷ [] = object-mark s entry j end n (was .2) in
-            let is : itemOf s x entry k j end n ≡ took (was .0) (n ∷ []) i = next ∙ rw one at (was .2) in
+            let one : was .1 ≡ n ∷ [] = object-mark s site entry j end n (was .2) in
+            let is : itemOf s x site entry k j end n ≡ took (was .0) (n ∷ []) i = next ∙ rw one at (was .2) in
             record {
               going = going-step (h .going) (sym m ∙ z) (more-before s x end n (sym m ∙ z)) (was .0) (n ∷ []) is (was .3) (fw .is i q g) (did-high d g) (did-small d g) (f .at);
               marks = put-put (h .marks) (rw l at f);
-              few = omega (arith, object-few s entry j end n (was .2), f .at);
+              few = omega (arith, object-few s site entry j end n (was .2), f .at);
               low = omega (arith, h .low, fw .is i q g);
               high = did-high d g;
               small = did-small d g;
@@ -162,13 +164,13 @@ module _ {x : Holder} (k j : ℕ) where
   full-record e = rw e refl
 
 -- objects behind the record that opens them, and then fill
-module _ {a b u v : List ℕ} {o at end k : ℕ} (s : List ℕ) (x : Holder) (kind entry : ℕ) {w : Many} (d : DidObjects a b u v o at end k (openedBy s x kind entry k end at) w) where
-  pub held-fails : {f : Fault} {p : ℕ} → w ≡ many.Fails f p → DidObjects a b u v o at end k (filledUp s x kind entry k end at) (many.Fails f p)
+module _ {a b u v : List ℕ} {o at end k : ℕ} (s : List ℕ) (x : Holder) (kind : ℕ) (site : Site) (entry : ℕ) {w : Many} (d : DidObjects a b u v o at end k (openedBy s x kind site entry k end at) w) where
+  pub held-fails : {f : Fault} {p : ℕ} → w ≡ many.Fails f p → DidObjects a b u v o at end k (filledUp s x kind site entry k end at) (many.Fails f p)
   held-fails z = objects-fails d (λ n. fill s 0x0107 end n) z
 
   module _ {n q j : ℕ} (z : w ≡ many.Took n q j) {c : List ℕ} {y : Part} (e : Did b c q n end (fill s 0x0107 end n) y) where
-    pub held-fill-fails : {f : Fault} {p : ℕ} → y ≡ Fails f p → DidObjects a c u v o at end k (filledUp s x kind entry k end at) (many.Fails f p)
+    pub held-fill-fails : {f : Fault} {p : ℕ} → y ≡ Fails f p → DidObjects a c u v o at end k (filledUp s x kind site entry k end at) (many.Fails f p)
     held-fill-fails g = objects-then-fell d z (λ m. fill s 0x0107 end m) e g
 
-    pub held-filled : {m t : ℕ} → y ≡ Took m t → DidObjects a c u v o at end k (filledUp s x kind entry k end at) (many.Took m t j)
+    pub held-filled : {m t : ℕ} → y ≡ Took m t → DidObjects a c u v o at end k (filledUp s x kind site entry k end at) (many.Took m t j)
     held-filled g = objects-then d z (λ m. fill s 0x0107 end m) e (plain-fill s 0x0107 end n) g

@@ -19,13 +19,14 @@ use Rattle.elements.specs.declared.fault.Fault.{Fault}
 use Rattle.elements.specs.declared.answer.Head.the-variants.{At}
 use Rattle.rules.specs.Reading.{Rec, rec, Res, took, fails, also, andThen}
 use Rattle.rules.specs.Parts.{element}
-use Rattle.rules.specs.Grammar.{low, elementBytes, firstOf, flat}
+use Rattle.rules.specs.declared.site.Site.{Site}
+use Rattle.rules.specs.Grammar.{Where, here, into, low, elementBytes, firstOf, many}
 use Rattle.rules.specs.ElementLaws.{LowTag, low-tag, low-is, low-first, Stands, head-complete}
 use Rattle.rules.specs.LookLaws.{Laid, size}
 use Rattle.rules.specs.Pays.{names-append}
 use Rattle.rules.specs.ReadLaws.{facts-kept, reads-facts}
 use Rattle.rules.specs.Counted.{listed}
-use Rattle.rules.specs.Entries.{object, item, knownTag, contextTag}
+use Rattle.rules.specs.Entries.{object, item, inline, knownTag, contextTag}
 use Rattle.rules.specs.EntryLaws.{known-low, unknown, entry-body, entry-law, entry-renders}
 use Rattle.rules.specs.Files.{Name, namesOf, paths, met, equal, firstAgain, filled, fill, entryBody, isPath, isNaming, entryPlace}
 use Rattle.cards.specs.CardKinds.{objects-names}
@@ -89,35 +90,35 @@ module _ (s : List ℕ) (small : length s ≤ 32768) where
 
   -- what an entry's records name
   module _ {end at n : ℕ} (l : end ≤ length s) where
-    by-item : (x : item .Of) → item .Meets x → {a e : ℕ} → Stands s at end (item .shape x) a e → e ≡ n → size (item .book x) ≤ 4 * (n - at) → Laid (length s) (item .book x) → Entry s end at (item .book x) n
+    by-item : (x : item .Of) → item .Meets x → {a e : ℕ} → Stands s at end (item .shape x) a e → e ≡ n → (i : Where) → size (item .book i x) ≤ 4 * (n - at) → Laid (length s) (item .book i x) → Entry s end at (item .book i x) n
     unfolding namesOf
-    by-item (inl (t, inl path)) m {a} {e} st w b v =
+    by-item (inl (t, inl path)) m {a} {e} st w i b v =
         let c = elementBytes (low 0x30 (elementBytes (low 0x04 path))) in
         let z : firstOf (low t c) ≡ t = low-first t c (known-low t (m .0)) in
         let q : header s at end ≡ At t a e = st .is ∙ rw z refl in
         let p = tag-at a e 0x30 (elementBytes (low 0x04 path)) (low-tag 0x30 tt) (st .order) (omega (arith, st .inside)) (st .within) in
         record { tag = t; from = a; head = q ∙ rw w refl; first = rec 0x0110 (t ∷ 0 ∷ path); rest = []; are = refl; quiet = refl; names = rw (q, m .0, p, le-leb 2 (length (t ∷ 0 ∷ path)) (omega arith)) refl; bound = b; laid = v }
-    by-item (inl (t, inr objects)) m {a} {e} st w b v =
+    by-item (inl (t, inr objects)) m {a} {e} st w i b v =
         let d = listed (object t) .part .bytes objects in
         let c = elementBytes (low 0xa0 d) in
         let z : firstOf (low t c) ≡ t = low-first t c (known-low t (m .0)) in
         let q : header s at end ≡ At t a e = st .is ∙ rw z refl in
         let p = tag-at a e 0xa0 d (low-tag 0xa0 tt) (st .order) (omega (arith, st .inside)) (st .within) in
-        record { tag = t; from = a; head = q ∙ rw w refl; first = rec 0x0110 (t ∷ 1 ∷ []); rest = flat (object t .part .book) objects; are = refl; quiet = objects-names t objects; names = rw (q, m .0, p) refl; bound = b; laid = v }
-    by-item (inr x) m {a} {e} st w b v =
+        record { tag = t; from = a; head = q ∙ rw w refl; first = rec 0x0110 (t ∷ 1 ∷ []); rest = many (object t .part) .book (into (into i (item .shape (inl (t, inr objects)))) (inline t .shape objects)) objects; are = refl; quiet = objects-names t _ objects; names = rw (q, m .0, p) refl; bound = b; laid = v }
+    by-item (inr x) m {a} {e} st w i b v =
         record { tag = firstOf x; from = a; head = st .is ∙ rw w refl; first = rec 0x0110 (firstOf x ∷ 2 ∷ elementBytes x); rest = []; are = refl; quiet = refl; names = rw (st .is, unknown (knownTag (firstOf x)) (contextTag (firstOf x)) (m .2) .0, le-leb 2 (length (firstOf x ∷ 2 ∷ elementBytes x)) (omega arith)) refl; bound = b; laid = v }
 
-module _ (s : List ℕ) (bytes : Bytes s) (small : length s ≤ 32768) where
-  pub entry-told : (k end at : ℕ) {bs : List Rec} {ms : List ℕ} {n : ℕ} → k ≤ 128 → at < end → end ≤ length s → element s (entryBody s k) end at ≡ took bs ms n → Entry s end at bs n
+module _ (site : Site) (s : List ℕ) (bytes : Bytes s) (small : length s ≤ 32768) where
+  pub entry-told : (k end at : ℕ) {bs : List Rec} {ms : List ℕ} {n : ℕ} → k ≤ 128 → at < end → end ≤ length s → element s (entryBody site s k) end at ≡ took bs ms n → Entry s end at bs n
   entry-told k end at {bs} {ms} {n} m h l z =
-      let f = reads-facts (entry-law s bytes small k m .sound end at (le-of-lt h) l) z in
+      let f = reads-facts (entry-law site s bytes small k m .sound end at (le-of-lt h) l) z in
       let x = f .it in
       let g = facts-kept entry-renders l f in
-      let p = head-complete s small at end (item .shape x) (slice n end s) (le-of-lt h) l (entry-body s bytes small k m .is x (f .meets)) (f .bytes) in
+      let p = head-complete s small at end (item .shape x) (slice n end s) (le-of-lt h) l (entry-body site s bytes small k m .is x (f .meets)) (f .bytes) in
       let c : length (slice (p .e) end s) ≡ length (slice n end s) = ap length (p .left) in
       let w : p .e ≡ n = omega (arith, c, length-slice (p .e) end s l, length-slice n end s l, f .high, p .stands .inside) in
       let b : size bs ≤ 4 * (n - at) = omega (arith, g .bound) in
-      rw (f .book) (by-item s small l x (f .meets) (p .stands) w (rw (f .book) at b) (rw (f .book) at (g .laid)))
+      rw (f .book) (by-item s small l x (f .meets) (p .stands) w (here site at) (rw (f .book) at b) (rw (f .book) at (g .laid)))
 
 -- the same of its records as they lie in the book
 module _ {s : List ℕ} {end at n : ℕ} {bs : List Rec} (g : Entry s end at bs n) {c : List ℕ} {p q : ℕ} (f : First c p q (g .first) (g .rest)) where

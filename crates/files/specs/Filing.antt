@@ -16,6 +16,7 @@ use Rattle.files.specs.declared.holder.Holder.{Holder}
 use Rattle.files.specs.declared.holder.Holder.the-variants as holder
 use Rattle.rules.specs.Reading.{Rec, rec, Res, took, fails, also, Reader, _then_}
 use Rattle.rules.specs.Parts.{element, ended, repeat, upTo, toEnd}
+use Rattle.rules.specs.declared.site.Site.{Site}
 use Rattle.rules.specs.Objects.{object}
 use Rattle.rules.specs.Files.{toFill, filled, fill, entryInside, entryBody, namesOf, paths, firstAgain, entryPlace}
 use Rattle.rules.specs.Book.{encode}
@@ -61,32 +62,33 @@ fullOf holder.Record k j = ltb k j
 
 module _ (s : List ℕ) where
   -- the next object of a holder, k before which there were
-  abbrev pub itemOf : Holder → ℕ → ℕ → ℕ → Reader
-  itemOf holder.List entry k = object s entry
-  itemOf holder.File entry k = object s entry
-  itemOf holder.Record entry k = upTo (k + 1) SecondObject (object s entry)
+  abbrev pub itemOf : Holder → Site → ℕ → ℕ → ℕ → Reader
+  itemOf holder.List site entry k = object s site entry
+  itemOf holder.File site entry k = object s site entry
+  itemOf holder.Record site entry k = upTo (k + 1) SecondObject (object s site entry)
 
   -- its objects; behind the record that opens it; with its fill
-  abbrev pub objectsIn : Holder → ℕ → ℕ → Reader
-  objectsIn x entry k end at = repeat (moreOf s x) (itemOf x entry k) (end - at) k end at
+  abbrev pub objectsIn : Holder → Site → ℕ → ℕ → Reader
+  objectsIn x site entry k end at = repeat (moreOf s x) (itemOf x site entry k) (end - at) k end at
 
-  abbrev pub openedBy : Holder → ℕ → ℕ → ℕ → Reader
-  openedBy x kind entry k end at = also (rec kind [] ∷ []) [] (objectsIn x entry k end at)
+  abbrev pub openedBy : Holder → ℕ → Site → ℕ → ℕ → Reader
+  openedBy x kind site entry k end at = also (rec kind [] ∷ []) [] (objectsIn x site entry k end at)
 
-  abbrev pub filledUp : Holder → ℕ → ℕ → ℕ → Reader
-  filledUp x kind entry k = openedBy x kind entry k then fill s 0x0107
+  abbrev pub filledUp : Holder → ℕ → Site → ℕ → ℕ → Reader
+  filledUp x kind site entry k = openedBy x kind site entry k then fill s 0x0107
 
   -- objects in EF.OD itself, behind the record of their entry
-  abbrev pub inlined : ℕ → ℕ → Reader
-  inlined entry k end at = also (rec 0x0110 (entry ∷ 1 ∷ []) ∷ []) [] (objectsIn holder.List entry k end at)
+  abbrev pub inlined : Site → ℕ → ℕ → Reader
+  inlined site entry k end at = also (rec 0x0110 (entry ∷ 1 ∷ []) ∷ []) [] (objectsIn holder.List site entry k end at)
 
+module _ (site : Site) (s : List ℕ) where
   -- the contents of an entry of a class
   abbrev pub knownEntry : ℕ → ℕ → Reader
-  knownEntry entry k = element s (entryInside s entry k) then ended s
+  knownEntry entry k = element s (entryInside site s entry k) then ended s
 
   -- an entry, after k objects
   abbrev pub entryAt : ℕ → Reader
-  entryAt k = element s (entryBody s k)
+  entryAt k = element s (entryBody site s k)
 
   -- EF.OD's entries, up to its fill
   abbrev pub entriesAt : Reader

@@ -17,6 +17,7 @@ use objects::put_behind;
 use objects::put_two;
 use objects::stands;
 use rules::Need;
+use rules::Site;
 ghost use mathlib.Core.Path.{_≡_};
 ghost use mathlib.Core.Bool.{_&&_};
 ghost use mathlib.Core.List.{[], _∷_};
@@ -69,6 +70,7 @@ fn path_entry(s: &[u8], entry: u8, end: usize, at: usize, out: &mut [u8], o: usi
 // Objects in EF.OD itself: the element at `at`, its contents from a to e.
 fn inline(
     s: &[u8],
+    site: Site,
     entry: u8,
     k: usize,
     at: usize,
@@ -79,15 +81,16 @@ fn inline(
     marks: &mut [u32],
 ) -> Many
     requires { ⌜ (k ≤ 128) × InElement (now s) at a e o ⌝ }
-    ensures { λ r. ⌜ DidObjects (now (out .entry)) (now (out .exit)) (now (marks .entry)) (now (marks .exit)) o a e k (inlined (now (s .entry)) entry k e a) r ⌝ }
+    ensures { λ r. ⌜ DidObjects (now (out .entry)) (now (out .exit)) (now (marks .entry)) (now (marks .exit)) o a e k (inlined (now (s .entry)) site entry k e a) r ⌝ }
 {
     let q = put_two(out, o, 0x0110, entry, 1);
-    objects(s, Holder::List, entry, k, e, a, out, q, marks)
+    objects(s, Holder::List, site, entry, k, e, a, out, q, marks)
 }
 
 // "Inside is a Path 30 or objects A0".
 fn entry_inside(
     s: &[u8],
+    site: Site,
     entry: u8,
     k: usize,
     end: usize,
@@ -97,7 +100,7 @@ fn entry_inside(
     marks: &mut [u32],
 ) -> Many
     requires { ⌜ (k ≤ 128) × InContainer (now s) end at o ⌝ }
-    ensures { λ r. ⌜ DidObjects (now (out .entry)) (now (out .exit)) (now (marks .entry)) (now (marks .exit)) o at end k (element (now (s .entry)) (entryInside (now (s .entry)) entry k) end at) r ⌝ }
+    ensures { λ r. ⌜ DidObjects (now (out .entry)) (now (out .exit)) (now (marks .entry)) (now (marks .exit)) o at end k (element (now (s .entry)) (entryInside site (now (s .entry)) entry k) end at) r ⌝ }
 {
     match header(s, at, end) {
         Head::No(f, p) => Many::Fails(f, p),
@@ -113,7 +116,7 @@ fn entry_inside(
                 }
             }
             if t == 0xa0 {
-                return inline(s, entry, k, at, a, e, out, o, marks);
+                return inline(s, site, entry, k, at, a, e, out, o, marks);
             }
             Many::Fails(Fault::NotDue, at)
         }
@@ -123,6 +126,7 @@ fn entry_inside(
 // An entry of a class: its contents from a to e.
 fn known_entry(
     s: &[u8],
+    site: Site,
     entry: u8,
     k: usize,
     a: usize,
@@ -132,9 +136,9 @@ fn known_entry(
     marks: &mut [u32],
 ) -> Many
     requires { ⌜ (k ≤ 128) × InContainer (now s) e a o ⌝ }
-    ensures { λ r. ⌜ DidObjects (now (out .entry)) (now (out .exit)) (now (marks .entry)) (now (marks .exit)) o a e k (knownEntry (now (s .entry)) entry k e a) r ⌝ }
+    ensures { λ r. ⌜ DidObjects (now (out .entry)) (now (out .exit)) (now (marks .entry)) (now (marks .exit)) o a e k (knownEntry site (now (s .entry)) entry k e a) r ⌝ }
 {
-    match entry_inside(s, entry, k, e, a, out, o, marks) {
+    match entry_inside(s, site, entry, k, e, a, out, o, marks) {
         Many::Fails(f, p) => Many::Fails(f, p),
         Many::Took(n, q, j) => match ended(s, e, n, q) {
             Part::Fails(f, p) => Many::Fails(f, p),
@@ -177,6 +181,7 @@ fn is_context(t: u8) -> bool
 // An entry with the tag t at `at`, its contents from a to e.
 fn entry_body(
     s: &[u8],
+    site: Site,
     k: usize,
     t: u8,
     at: usize,
@@ -187,10 +192,10 @@ fn entry_body(
     marks: &mut [u32],
 ) -> Many
     requires { ⌜ (k ≤ 128) × InElement (now s) at a e o ⌝ }
-    ensures { λ r. ⌜ DidObjects (now (out .entry)) (now (out .exit)) (now (marks .entry)) (now (marks .exit)) o a e k (entryBody (now (s .entry)) k t at a e) r ⌝ }
+    ensures { λ r. ⌜ DidObjects (now (out .entry)) (now (out .exit)) (now (marks .entry)) (now (marks .exit)) o a e k (entryBody site (now (s .entry)) k t at a e) r ⌝ }
 {
     if is_known(t) {
-        return known_entry(s, t, k, a, e, out, o, marks);
+        return known_entry(s, site, t, k, a, e, out, o, marks);
     }
     if is_context(t) {
         match unknown_entry(s, t, at, a, e, out, o) {
@@ -208,6 +213,7 @@ fn entry_body(
 // An entry of EF.OD, after k objects.
 fn entry(
     s: &[u8],
+    site: Site,
     k: usize,
     end: usize,
     at: usize,
@@ -216,25 +222,33 @@ fn entry(
     marks: &mut [u32],
 ) -> Many
     requires { ⌜ (k ≤ 128) × InContainer (now s) end at o ⌝ }
-    ensures { λ r. ⌜ DidObjects (now (out .entry)) (now (out .exit)) (now (marks .entry)) (now (marks .exit)) o at end k (entryAt (now (s .entry)) k end at) r × ForwardMany at r ⌝ }
+    ensures { λ r. ⌜ DidObjects (now (out .entry)) (now (out .exit)) (now (marks .entry)) (now (marks .exit)) o at end k (entryAt site (now (s .entry)) k end at) r × ForwardMany at r ⌝ }
 {
     match header(s, at, end) {
         Head::No(f, p) => Many::Fails(f, p),
-        Head::At(t, a, e) => entry_body(s, k, t, at, a, e, out, o, marks),
+        Head::At(t, a, e) => entry_body(s, site, k, t, at, a, e, out, o, marks),
     }
 }
 
 // EF.OD's entries, up to its fill.
-fn entries(s: &[u8], end: usize, at: usize, out: &mut [u8], o: usize, marks: &mut [u32]) -> Entries
+fn entries(
+    s: &[u8],
+    site: Site,
+    end: usize,
+    at: usize,
+    out: &mut [u8],
+    o: usize,
+    marks: &mut [u32],
+) -> Entries
     requires { ⌜ InContainer (now s) end at o × (o + 3 ≤ 4 * at) × (131072 ≤ length (now out)) ⌝ }
-    ensures { λ r. ⌜ DidEntries (now (s .entry)) (now (out .entry)) (now (out .exit)) (now (marks .entry)) (now (marks .exit)) o at end (entriesAt (now (s .entry)) end at) r ⌝ }
+    ensures { λ r. ⌜ DidEntries (now (s .entry)) (now (out .entry)) (now (out .exit)) (now (marks .entry)) (now (marks .exit)) o at end (entriesAt site (now (s .entry)) end at) r ⌝ }
 {
     let mut k = 0;
     let mut n = at;
     let mut p = o;
     let mut again = 0;
     while goes_on(s, end, n) {
-        match entry(s, k, end, n, out, p, marks) {
+        match entry(s, site, k, end, n, out, p, marks) {
             Many::Fails(f, x) => {
                 return Entries::Fails(f, x);
             }
@@ -261,7 +275,11 @@ pub fn object_directory(
     requires { ⌜ InContainer (now s) end at o × (o + 3 ≤ 4 * at) × (131072 ≤ length (now out)) ⌝ }
     ensures { λ r. ⌜ DidEntries (now (s .entry)) (now (out .entry)) (now (out .exit)) (now (marks .entry)) (now (marks .exit)) o at end (od (now (s .entry)) end at) r ⌝ }
 {
-    match entries(s, end, at, out, o, marks) {
+    let site = Site {
+        number: 0,
+        start: at,
+    };
+    match entries(s, site, end, at, out, o, marks) {
         Entries::Fails(f, p) => Entries::Fails(f, p),
         Entries::Took(n, q, j, again) => match fill(s, 0x0107, end, n, out, q) {
             Part::Fails(f, p) => Entries::Fails(f, p),

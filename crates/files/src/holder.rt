@@ -5,6 +5,7 @@ use objects::Many;
 use objects::Part;
 use objects::object_at;
 use objects::put_bare;
+use rules::Site;
 use rules::store;
 ghost use mathlib.Core.Path.{_≡_};
 ghost use Prim.Native.Nat.{_+_, _*_, _≤_};
@@ -46,6 +47,7 @@ fn is_full(x: Holder, k: usize, j: usize) -> bool
 pub fn objects(
     s: &[u8],
     x: Holder,
+    site: Site,
     entry: u8,
     k: usize,
     end: usize,
@@ -55,7 +57,7 @@ pub fn objects(
     marks: &mut [u32],
 ) -> Many
     requires { ⌜ (k ≤ 128) × InContainer (now s) end at o ⌝ }
-    ensures { λ r. ⌜ DidObjects (now (out .entry)) (now (out .exit)) (now (marks .entry)) (now (marks .exit)) o at end k (objectsIn (now (s .entry)) x entry k end at) r ⌝ }
+    ensures { λ r. ⌜ DidObjects (now (out .entry)) (now (out .exit)) (now (marks .entry)) (now (marks .exit)) o at end k (objectsIn (now (s .entry)) x site entry k end at) r ⌝ }
 {
     let mut j = k;
     let mut n = at;
@@ -64,7 +66,7 @@ pub fn objects(
         if is_full(x, k, j) {
             return Many::Fails(Fault::SecondObject, n);
         }
-        match object_at(s, entry, j, end, n, out, p) {
+        match object_at(s, site, entry, j, end, n, out, p) {
             Part::Fails(f, y) => {
                 return Many::Fails(f, y);
             }
@@ -83,6 +85,7 @@ fn opened(
     s: &[u8],
     x: Holder,
     kind: u16,
+    site: Site,
     entry: u8,
     k: usize,
     end: usize,
@@ -92,10 +95,10 @@ fn opened(
     marks: &mut [u32],
 ) -> Many
     requires { ⌜ (k ≤ 128) × (o + 4 ≤ 8 * at + 131072) × InContainer (now s) end at o ⌝ }
-    ensures { λ r. ⌜ DidObjects (now (out .entry)) (now (out .exit)) (now (marks .entry)) (now (marks .exit)) o at end k (openedBy (now (s .entry)) x kind entry k end at) r ⌝ }
+    ensures { λ r. ⌜ DidObjects (now (out .entry)) (now (out .exit)) (now (marks .entry)) (now (marks .exit)) o at end k (openedBy (now (s .entry)) x kind site entry k end at) r ⌝ }
 {
     let q = put_bare(out, o, kind);
-    objects(s, x, entry, k, end, at, out, q, marks)
+    objects(s, x, site, entry, k, end, at, out, q, marks)
 }
 
 // The same, and then fill: a transparent file, or a record of a record file.
@@ -103,6 +106,7 @@ pub fn held(
     s: &[u8],
     x: Holder,
     kind: u16,
+    site: Site,
     entry: u8,
     k: usize,
     end: usize,
@@ -112,9 +116,9 @@ pub fn held(
     marks: &mut [u32],
 ) -> Many
     requires { ⌜ (k ≤ 128) × (o + 4 ≤ 8 * at + 131072) × InContainer (now s) end at o ⌝ }
-    ensures { λ r. ⌜ DidObjects (now (out .entry)) (now (out .exit)) (now (marks .entry)) (now (marks .exit)) o at end k (filledUp (now (s .entry)) x kind entry k end at) r ⌝ }
+    ensures { λ r. ⌜ DidObjects (now (out .entry)) (now (out .exit)) (now (marks .entry)) (now (marks .exit)) o at end k (filledUp (now (s .entry)) x kind site entry k end at) r ⌝ }
 {
-    match opened(s, x, kind, entry, k, end, at, out, o, marks) {
+    match opened(s, x, kind, site, entry, k, end, at, out, o, marks) {
         Many::Fails(f, p) => Many::Fails(f, p),
         Many::Took(n, q, j) => match fill(s, 0x0107, end, n, out, q) {
             Part::Fails(f, p) => Many::Fails(f, p),

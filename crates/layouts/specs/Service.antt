@@ -81,3 +81,11 @@ read-fits {s} {a} {b} {r} {n} h e = go (readDump s) (rw e at (h .is))
     go : (w : Answer) → served (Accepted n) b ≡ byAnswer w a → n ≤ length b
     go (accepted rs) q = giving-fits (encode rs) a q
     go (refused f p) q = let w : Accepted n ≡ Refused f p = ap (λ (x : Served). x .answer) q in absurd (let z : _≡_ {A = ℕ} 0 1 = cc in omega arith)
+
+pub write-fits : {b a c : List ℕ} {r : Outcome} {n : ℕ} → WriteTold b a c r → r ≡ Accepted n → n ≤ length c
+unfolding writing
+write-fits {b} {a} {c} {r} {n} h e = go (writeDump b) (rw e at (h .is))
+  where
+    go : (w : Written) → served (Accepted n) c ≡ byWritten w a → n ≤ length c
+    go (written d) q = giving-fits d a q
+    go noBook q = let w : Accepted n ≡ Refused NoDump 0 = ap (λ (x : Served). x .answer) q in absurd (let z : _≡_ {A = ℕ} 0 1 = cc in omega arith)

@@ -16,6 +16,7 @@ use Rattle.rules.specs.Reading.{Rec, rec}
 use Rattle.rules.specs.Book.{encode}
 use Rattle.rules.specs.Files.{accepted, hasDir, readDump}
 use Rattle.rules.specs.Blocks.{closing}
+use Rattle.rules.specs.Grammar.{origin}
 use Rattle.cards.specs.Card as card
 use Rattle.cards.specs.Card.{Card, Meets, dumpOf, bookOf}
 use Rattle.cards.specs.Blocks.{Blocks, nothing, other, dir-blocks}
@@ -48,12 +49,12 @@ module _ {es : List Rec} (b : Blocks [] es) where
 -- nor the list
 pub links-same : (c : Card) → links (bookOf c) ≡ links (bookOf (without c))
 unfolding links
-links-same c = rw (book-without c, objects-same (dir-blocks (c .dir)) 0 (bookOf (without c))) refl
+links-same c = rw (book-without c, objects-same (dir-blocks origin (c .dir)) 0 (bookOf (without c))) refl
 
 -- nor a field
 pub fields-same : (c : Card) (i k : ℕ) → fieldOf i k (bookOf c) ≡ fieldOf i k (bookOf (without c))
 unfolding fieldOf
-fields-same c i k = rw (book-without c, objects-same (dir-blocks (c .dir)) 0 (bookOf (without c))) refl
+fields-same c i k = rw (book-without c, objects-same (dir-blocks origin (c .dir)) 0 (bookOf (without c))) refl
 
 -- and "kinds from 0200 are no field's"
 pub no-field : (i k : ℕ) (rs : List Rec) → 0x0200 ≤ k → fieldOf i k rs ≡ none

@@ -18,6 +18,7 @@ use Rattle.rules.specs.Files.{readDump, accepted}
 use Rattle.rules.specs.TestLaws.{is-true}
 use Rattle.rules.specs.Pays.{pays}
 use Rattle.rules.specs.Blocks.{closing, inner, info-inner}
+use Rattle.rules.specs.Grammar.{origin}
 use Rattle.cards.specs.Card as card
 use Rattle.cards.specs.Card.{Card, bookOf, recordsOf, front, behind, identifiers}
 use Rattle.cards.specs.CardKinds.{certificate-once, own-once, nested, occurs}
@@ -85,8 +86,8 @@ whole-blocks (whole {os = xs} {rs = bs} x b) at =
 
 pub whole-objects : (c : Card) → WholeObjects (objectsOf (bookOf c)) (card.objectsOf c)
 whole-objects c =
-    let others = card.od .book (c .main) ++ card.files (card.namesOf (c .main)) .book (c .dirs) in
-    rw (append-assoc (card.cia .book (c .info)) others (card.efDir .book (c .dir))) (objects-behind (λ os. WholeObjects os (card.objectsOf c)) 0 (card.cia .book (c .info)) (others ++ card.efDir .book (c .dir)) (info-inner (c .info)) (whole-blocks (card-blocks c)))
+    let others = card.od .book origin (c .main) ++ card.files 1 (card.namesOf (c .main)) .book origin (c .dirs) in
+    rw (append-assoc (card.cia .book origin (c .info)) others (card.efDir .book origin (c .dir))) (objects-behind (λ os. WholeObjects os (card.objectsOf c)) 0 (card.cia .book origin (c .info)) (others ++ card.efDir .book origin (c .dir)) (info-inner origin (c .info)) (whole-blocks (card-blocks c)))
 
 -- as many as the card has
 same-length : {os : List Object} {xs : List card.Object} → WholeObjects os xs → length os ≡ length xs

@@ -1,10 +1,12 @@
 // What is asked for, by the words that the program was started with.
+use rules::same_bytes;
 ghost use Prim.Native.Nat.{_≤_};
 
 pub enum Question {
     List,
     Whys,
     Row(usize),
+    Where,
 }
 
 // The number of no row: a book has at most 131,072 bytes, and no list so many rows.
@@ -34,9 +36,19 @@ fn number(text: &[u8]) -> usize {
     n
 }
 
+// `where`, or else `why`.
+fn is_where() -> bool {
+    let mut text = [0u8; 8];
+    let n = os::arg(1, &mut text);
+    same_bytes(&text, 0, n, b"where", 0, 5)
+}
+
 pub fn asked() -> Question {
     if os::arg_count() < 2 {
         return Question::List;
+    }
+    if is_where() {
+        return Question::Where;
     }
     if os::arg_count() < 3 {
         return Question::Whys;
@@ -50,7 +62,7 @@ pub fn asked() -> Question {
     Question::Row(number(&text[..n]))
 }
 
-// Whether why is asked of a book: its first record's kind is at least 0100, and a dump's is 0001 or 0005.
+// Whether the card is a book: its first record's kind is at least 0100, and a dump's is 0001 or 0005. The list is a dump's.
 pub fn of_a_book(asked: Question, card: &[u8]) -> bool {
     match asked {
         Question::List => false,

@@ -6,12 +6,17 @@ use why::Why;
 ghost use Prim.Native.Nat.{_+_, _≤_};
 ghost use lib.ListN.{length};
 
-fn word(text: &[u8]) {
+pub fn word(text: &[u8]) {
     io::write_all(STDOUT_FILENO, text);
 }
 
-fn decimal(n: u64) {
+pub fn decimal(n: u64) {
     io::print_decimal(STDOUT_FILENO, n);
+}
+
+// A byte in hex.
+pub fn byte(b: u8) {
+    io::print_hex(STDOUT_FILENO, b as u64, 2);
 }
 
 pub fn refused(f: Fault, place: usize) {
@@ -43,7 +48,7 @@ fn record(name: &[u8], p: usize, kind: u32) {
     word(b"\n");
 }
 
-// "met 89 0150", "no object of the class", "elsewhere 82 0130", "nowhere"
+// "met 97 0150", "no object of the class", "elsewhere 94 0130", "nowhere"
 pub fn reason(w: Why) {
     match w {
         Why::Met(p, k) => record(b"met ", p, k),

@@ -1,8 +1,8 @@
 -- Objects: the ways through their code.
-use Prim.Native.Nat.{ℕ, _<_, _≤_}
+use Prim.Native.Nat.{ℕ, _-_, _<_, _≤_}
 use mathlib.Core.Path.{_≡_, refl, sym, _∙_}
 use mathlib.Core.Bool.{Bool, true, false, _||_, _&&_}
-use mathlib.Core.List.{List, [], _∷_}
+use mathlib.Core.List.{List, _∷_, _++_}
 use native.Mathlib.Omega.{arith}
 use lib.Dec.{leb, eqb}
 use borrow.Author.Tests.{lt-ltb, le-ltb, le-leb, lt-leb, eq-eqb, ne-eqb}
@@ -11,10 +11,12 @@ use Rattle.elements.specs.declared.fault.Fault.the-variants.{NotDue, ManyObject
 use Rattle.elements.specs.declared.answer.Head.{Head}
 use Rattle.elements.specs.declared.answer.Head.the-variants.{At, No}
 use Rattle.elements.specs.Header.{header}
-use Rattle.elements.specs.Put.{Put}
+use Rattle.elements.specs.Put.{Put, le16}
 use Rattle.elements.specs.Record.{recordBytes}
 use Rattle.objects.specs.declared.part.Part.{Part}
 use Rattle.objects.specs.declared.part.Part.the-variants.{Took, Fails}
+use Rattle.rules.specs.declared.site.Site.{Site}
+use Rattle.rules.specs.Grammar.{here, numbers}
 use Rattle.rules.specs.declared.table.Class.{Class}
 use Rattle.rules.specs.declared.table.ObjectType.{ObjectType}
 use Rattle.rules.specs.declared.table.Need.the-variants.{Required, Optional}
@@ -80,26 +82,26 @@ module _ (s : List ℕ) (entry tag : ℕ) {a b : List ℕ} {o end at : ℕ} {r :
     contents-third z1 d2 = did-ends contents-two z1 (λ n. ended s end n) d2
 
 -- ---- an object's element
-module _ (s : List ℕ) (entry t at x e : ℕ) {z : Bool} (u : z ≡ (eqb t 0x30 || (leb 0xa0 t && leb t 0xa7))) where
-  pub body-other : (a : List ℕ) (o : ℕ) → z ≡ false → Did a a o x e (objectBody s entry t at x e) (Fails NotDue at)
+module _ (s : List ℕ) (site : Site) (entry t at x e : ℕ) {z : Bool} (u : z ≡ (eqb t 0x30 || (leb 0xa0 t && leb t 0xa7))) where
+  pub body-other : (a : List ℕ) (o : ℕ) → z ≡ false → Did a a o x e (objectBody s site entry t at x e) (Fails NotDue at)
   unfolding objectBody
   body-other a o v = rw (sym u ∙ v) (fell refl)
 
-  pub body-here : {a b c : List ℕ} {o q : ℕ} {r : Part} → z ≡ true → Put a b o q (recordBytes 0x0120 (entry ∷ t ∷ [])) → Did b c q x e (contents s entry t e x) r → Did a c o x e (objectBody s entry t at x e) r
+  pub body-here : {a b c : List ℕ} {o q n : ℕ} {r : Part} → z ≡ true → n ≡ at - site .start → Put a b o q (recordBytes 0x0120 (entry ∷ t ∷ (le16 (site .number) ++ le16 n))) → Did b c q x e (contents s entry t e x) r → Did a c o x e (objectBody s site entry t at x e) r
   unfolding objectBody
-  body-here v f d = rw (sym u ∙ v) (did-counts at (before 0x0120 (entry ∷ t ∷ []) f d))
+  body-here v m f d = rw (sym u ∙ v) (did-counts at (before 0x0120 (entry ∷ t ∷ numbers (here site at)) (rw m at f) d))
 
 -- ---- an object
-module _ (s : List ℕ) (entry k end at : ℕ) where
-  pub object-many : (a : List ℕ) (o : ℕ) → 128 ≤ k → Did a a o at end (object s entry k end at) (Fails ManyObjects at)
+module _ (s : List ℕ) (site : Site) (entry k end at : ℕ) where
+  pub object-many : (a : List ℕ) (o : ℕ) → 128 ≤ k → Did a a o at end (object s site entry k end at) (Fails ManyObjects at)
   unfolding entries.object
   object-many a o h = rw (le-ltb k 128 h) (fell refl)
 
   module _ (l : k < 128) {h : Head} (g : h ≡ header s at end) where
-    pub object-bad : (a : List ℕ) (o : ℕ) {f : Fault} {p : ℕ} → h ≡ No f p → Did a a o at end (object s entry k end at) (Fails f p)
+    pub object-bad : (a : List ℕ) (o : ℕ) {f : Fault} {p : ℕ} → h ≡ No f p → Did a a o at end (object s site entry k end at) (Fails f p)
     unfolding entries.object objectBody
-    object-bad a o q = rw (lt-ltb k 128 l) (element-fails s (objectBody s entry) end at g a o q)
+    object-bad a o q = rw (lt-ltb k 128 l) (element-fails s (objectBody s site entry) end at g a o q)
 
-    pub object-here : {a b : List ℕ} {o t x e : ℕ} {r : Part} → h ≡ At t x e → Did a b o x e (objectBody s entry t at x e) r → Did a b o at end (object s entry k end at) r
+    pub object-here : {a b : List ℕ} {o t x e : ℕ} {r : Part} → h ≡ At t x e → Did a b o x e (objectBody s site entry t at x e) r → Did a b o at end (object s site entry k end at) r
     unfolding entries.object objectBody
-    object-here q d = rw (lt-ltb k 128 l) (element-here s (objectBody s entry) end at g q d)
+    object-here q d = rw (lt-ltb k 128 l) (element-here s (objectBody s site entry) end at g q d)

@@ -23,14 +23,22 @@ module _ (kind : ℕ) {a b : List ℕ} {o p : ℕ} where
     unfolding recordBytes
     record-fill n f g h = put-then (put-put f g) h refl
 
-    module _ {d : List ℕ} {r y : ℕ} where
-      pub record-two : Put a b o p (le16 (2 + 2) ++ le16 kind) → Put b c p q (x ∷ []) → Put c d q r (y ∷ []) → Put a d o r (recordBytes kind (x ∷ y ∷ []))
-      unfolding recordBytes
-      record-two f g h = put-then (put-put f g) h refl
+    pub record-front : (n y : ℕ) {d : List ℕ} {r : ℕ} → Put a b o p (le16 (n + 2) ++ le16 kind) → Put b c p q (x ∷ []) → Put c d q r (y ∷ []) → Put a d o r (le16 (n + 2) ++ (le16 kind ++ (x ∷ y ∷ [])))
+    record-front n y f g h = put-then (put-put f g) h refl
 
-      pub record-behind : {m : List ℕ} {t : ℕ} (s : List ℕ) (i e : ℕ) → e ≤ length s → Put a b o p (le16 (e - i + 2 + 2) ++ le16 kind) → Put b c p q (x ∷ []) → Put c d q r (y ∷ []) → Put d m r t (slice i e s) →
-          Put a m o t (recordBytes kind (x ∷ y ∷ slice i e s))
-      unfolding recordBytes
-      record-behind s i e l f g h k =
-          let n : suc (suc (length (slice i e s))) + 2 ≡ e - i + 2 + 2 = omega (arith, length-slice i e s l) in
-          put-then (put-put (put-put f g) h) k (rw n refl)
+-- behind its first two bytes
+module _ (kind : ℕ) {a b : List ℕ} {o p x y : ℕ} where
+  pub record-two : Put a b o p (le16 (2 + 2) ++ (le16 kind ++ (x ∷ y ∷ []))) → Put a b o p (recordBytes kind (x ∷ y ∷ []))
+  unfolding recordBytes
+  record-two f = put-as f refl
+
+  module _ {c : List ℕ} {q : ℕ} where
+    pub record-numbers : (i j : ℕ) {d : List ℕ} {r : ℕ} → Put a b o p (le16 (6 + 2) ++ (le16 kind ++ (x ∷ y ∷ []))) → Put b c p q (le16 i) → Put c d q r (le16 j) → Put a d o r (recordBytes kind (x ∷ y ∷ (le16 i ++ le16 j)))
+    unfolding recordBytes
+    record-numbers i j f g h = put-then (put-put f g) h refl
+
+    pub record-behind : (s : List ℕ) (i e : ℕ) → e ≤ length s → Put a b o p (le16 (e - i + 2 + 2) ++ (le16 kind ++ (x ∷ y ∷ []))) → Put b c p q (slice i e s) → Put a c o q (recordBytes kind (x ∷ y ∷ slice i e s))
+    unfolding recordBytes
+    record-behind s i e l f g =
+        let n : suc (suc (length (slice i e s))) + 2 ≡ e - i + 2 + 2 = omega (arith, length-slice i e s l) in
+        put-then f g (rw n refl)

@@ -3,14 +3,16 @@ use crate::class::due_subclass;
 use crate::common::due_common;
 use crate::keep::ended;
 use crate::part::Part;
-use crate::records::put_two;
+use crate::records::put_numbers;
 use crate::types::due_type;
 use elements::Fault;
 use elements::Head;
 use elements::header;
+use rules::Site;
 use rules::class_of;
 use rules::type_of;
 ghost use mathlib.Core.Path.{_≡_};
+ghost use Prim.Native.Nat.{_-_};
 ghost use mathlib.Core.Bool.{_||_, _&&_};
 ghost use lib.Dec.{eqb, leb};
 ghost use Rattle.rules.specs.Objects.{contents, objectBody, object};
@@ -56,9 +58,20 @@ fn contents(s: &[u8], entry: u8, tag: u8, end: usize, at: usize, out: &mut [u8],
     }
 }
 
+// The offset of a place in its file; 0 in front of it.
+fn offset(start: usize, at: usize) -> usize
+    ensures { λ r. ⌜ r ≡ at - start ⌝ }
+{
+    if at < start {
+        return 0;
+    }
+    at - start
+}
+
 // An object with the tag t at `at`, its contents from a to e.
 fn object_body(
     s: &[u8],
+    site: Site,
     entry: u8,
     t: u8,
     at: usize,
@@ -68,10 +81,11 @@ fn object_body(
     o: usize,
 ) -> Part
     requires { ⌜ InElement (now s) at a e o ⌝ }
-    ensures { λ r. ⌜ Did (now (out .entry)) (now (out .exit)) o a e (objectBody (now (s .entry)) entry t at a e) r ⌝ }
+    ensures { λ r. ⌜ Did (now (out .entry)) (now (out .exit)) o a e (objectBody (now (s .entry)) site entry t at a e) r ⌝ }
 {
     if is_object(t) {
-        let q = put_two(out, o, 0x0120, entry, t);
+        let n = offset(site.start, at);
+        let q = put_numbers(out, o, 0x0120, entry, t, site.number, n as u16);
         return contents(s, entry, t, e, a, out, q);
     }
     Part::Fails(Fault::NotDue, at)
@@ -80,6 +94,7 @@ fn object_body(
 // "At most 128 objects": the object due at `at`, after k objects of the dump.
 pub fn object_at(
     s: &[u8],
+    site: Site,
     entry: u8,
     k: usize,
     end: usize,
@@ -88,13 +103,13 @@ pub fn object_at(
     o: usize,
 ) -> Part
     requires { ⌜ InContainer (now s) end at o ⌝ }
-    ensures { λ r. ⌜ Did (now (out .entry)) (now (out .exit)) o at end (object (now (s .entry)) entry k end at) r × Forward at r ⌝ }
+    ensures { λ r. ⌜ Did (now (out .entry)) (now (out .exit)) o at end (object (now (s .entry)) site entry k end at) r × Forward at r ⌝ }
 {
     if 128 <= k {
         return Part::Fails(Fault::ManyObjects, at);
     }
     match header(s, at, end) {
         Head::No(f, p) => Part::Fails(f, p),
-        Head::At(t, a, e) => object_body(s, entry, t, at, a, e, out, o),
+        Head::At(t, a, e) => object_body(s, site, entry, t, at, a, e, out, o),
     }
 }

@@ -33,13 +33,13 @@ counted-took : (w : Res) (g : ℕ → ℕ → Res) {bs : List Rec} {ms : List �
 counted-took w g e = rw e refl
 
 -- one file more
-one-file : (s : List ℕ) (ns names : List Name) (nm : Name) (rest fs : List File) (f : File) (c t k a e : ℕ) → ns ≡ nm ∷ names → rest ≡ f ∷ fs → nm .tag ≡ t → f .kind ≡ k → f .start ≡ a → f .stop ≡ e →
-    directories s ns rest c ≡ counted (byKind s k t c e a) (λ y _. directories s names fs (c + y))
+one-file : (s : List ℕ) (ns names : List Name) (nm : Name) (rest fs : List File) (f : File) (z c t k a e : ℕ) → ns ≡ nm ∷ names → rest ≡ f ∷ fs → nm .tag ≡ t → f .kind ≡ k → f .start ≡ a → f .stop ≡ e →
+    directories s ns rest z c ≡ counted (byKind s k z t c e a) (λ y _. directories s names fs (z + 1) (c + y))
 unfolding directories fileOf
-one-file s ns names nm rest fs f c t k a e x y z w u v = rw (x, y, ← z, ← w, ← u, ← v) refl
+one-file s ns names nm rest fs f z c t k a e x y i w u v = rw (x, y, ← i, ← w, ← u, ← v) refl
 
 -- the names from the record at j on, and the files from n on, are still to come; before them ds and ns were put
-pub record Turning (s : List ℕ) (at : ℕ) (a b u v : List ℕ) (i end o k j n p c : ℕ) : Type 0 where
+pub record Turning (s : List ℕ) (at : ℕ) (a b u v : List ℕ) (i end o k j n p c z : ℕ) : Type 0 where
   pub now : List Rec
   pub next : NextName b end now j
   pub rest : List File
@@ -49,15 +49,17 @@ pub record Turning (s : List ℕ) (at : ℕ) (a b u v : List ℕ) (i end o k j n
   pub ns : List ℕ
   pub put : Put a b o p (encode ds)
   pub marks : Put u v k c ns
-  pub whole : (rs : List Rec) (fs : List File) (g : ℕ) → Lies a i end rs → frames s g at ≡ files fs → also ds ns (directories s (namesOf now) rest c) ≡ directories s (namesOf rs) fs k
+  pub whole : (rs : List Rec) (fs : List File) (g : ℕ) → Lies a i end rs → frames s g at ≡ files fs → also ds ns (directories s (namesOf now) rest z c) ≡ directories s (namesOf rs) fs 1 k
   pub high : n ≤ length s
   pub room : p ≤ 8 * n + 131072
   pub behind : end ≤ p
   pub few : c ≤ 128
+  -- a file has a byte
+  pub number : z ≤ n + 1
   pub same : length b ≡ length a
   pub kept : length v ≡ length u
 
-pub turning-start : (s : List ℕ) (at : ℕ) (a u : List ℕ) (i end o k : ℕ) {j : ℕ} → Holds a i end → Sound s at → NameTold a i end j → at ≤ length s → k ≤ 128 → end ≤ o → o ≤ 8 * at + 131072 → Turning s at a a u u i end o k j at o k
+pub turning-start : (s : List ℕ) (at : ℕ) (a u : List ℕ) (i end o k : ℕ) {j : ℕ} → Holds a i end → Sound s at → NameTold a i end j → at ≤ length s → k ≤ 128 → end ≤ o → o ≤ 8 * at + 131072 → Turning s at a a u u i end o k j at o k 1
 unfolding encode
 turning-start s at a u i end o k {j} h w t l m n q = record {
   now = h .rs;
@@ -69,17 +71,18 @@ turning-start s at a u i end o k {j} h w t l m n q = record {
   ns = [];
   put = put-none a o;
   marks = put-none u k;
-  whole = λ rs fs g x y. rw (lie-same x (h .lies), chain-same s fs (w .fs) g (w .turns) at y (w .are)) (also-none (directories s (namesOf (h .rs)) (w .fs) k));
+  whole = λ rs fs g x y. rw (lie-same x (h .lies), chain-same s fs (w .fs) g (w .turns) at y (w .are)) (also-none (directories s (namesOf (h .rs)) (w .fs) 1 k));
   high = l;
   room = q;
   behind = n;
   few = m;
+  number = omega arith;
   same = refl;
   kept = refl;
 }
 
-module _ {s : List ℕ} {at : ℕ} {a b u v : List ℕ} {i end o k j n p c : ℕ} (h : Turning s at a b u v i end o k j n p c) where
-  stopped : directories s (namesOf (h .now)) (h .rest) c ≡ took [] [] 0 → FilesTold s at a b u v i end o k (many.Took 0 p c)
+module _ {s : List ℕ} {at : ℕ} {a b u v : List ℕ} {i end o k j n p c z : ℕ} (h : Turning s at a b u v i end o k j n p c z) where
+  stopped : directories s (namesOf (h .now)) (h .rest) z c ≡ took [] [] 0 → FilesTold s at a b u v i end o k (many.Took 0 p c)
   stopped e = record { is = λ rs fs g x y. rw (sym (h .whole rs fs g x y), e, append-nil (h .ds), append-nil (h .ns)) (didFiles (h .put) (h .marks) (h .few)) }
 
   -- no name is left
@@ -129,31 +132,35 @@ module _ {s : List ℕ} {at : ℕ} {a b u v : List ℕ} {i end o k j n p c : ℕ
         go (last e q) = absurd (omega arith)
         go (found nm left q _ _ _ w x) = x .low
 
+    -- a number of two bytes
+    pub turning-number : length s ≤ 32768 → z + 1 < 2 ^ 16
+    turning-number m = omega (arith, h .number, h .high)
+
     pub turning-step : {l′ : ℕ} → l′ ≡ two b j → length s ≤ 32768 → j + 2 + l′ < 2 ^ 64
     turning-step z′ m = omega (arith, turning-end, h .behind, h .room, h .high)
 
     module _ (m : n < length s) {r : Framed} (e : namedFrame s n ≡ framedAs n r) where
       pub turning-sound : {f : Fault} {x : ℕ} → r ≡ file.Broken f x → ⊥
-      turning-sound z =
+      turning-sound q′ =
           let w = chain-more s (h .turns) n (h .rest) m (h .chain) in
           let y : framed (w .0) ≡ framedAs n r = sym (w .4) ∙ e in
-          let q : framed (w .0) ≡ framedAs n (file.Broken _ _) = rw z at y in
+          let q : framed (w .0) ≡ framedAs n (file.Broken _ _) = rw q′ at y in
           let t : _≡_ {A = ℕ} 0 1 = cc in omega arith
 
       -- the file's kind, and its records if it is of records
       pub turning-sorted : {g′ x a′ e′ : ℕ} → r ≡ file.File g′ x a′ e′ → Sorted s g′ e′ a′
-      turning-sorted {g′} {x} {a′} {e′} z =
+      turning-sorted {g′} {x} {a′} {e′} q′ =
           let f = chain-more s (h .turns) n (h .rest) m (h .chain) in
-          let i = is-framed n r (f .0) (sym (f .4) ∙ e) z in
+          let i = is-framed n r (f .0) (sym (f .4) ∙ e) q′ in
           rw (i .0, i .2, i .3) at (f .6)
 
-      module _ {g′ x a′ e′ : ℕ} (z : r ≡ file.File g′ x a′ e′) {b′ v′ : List ℕ} {w : Many} (d : DidObjects b b′ v v′ p a′ e′ c (byKind s g′ (getD b (j + 4) 0) c e′ a′) w) where
+      module _ {g′ x a′ e′ : ℕ} (q′ : r ≡ file.File g′ x a′ e′) {b′ v′ : List ℕ} {w : Many} (d : DidObjects b b′ v v′ p a′ e′ c (byKind s g′ z (getD b (j + 4) 0) c e′ a′) w) where
         -- what is to be done now
         pub record Stepped : Type 0 where
           pub left : List Rec
           pub after : List File
           pub fuel : ℕ
-          pub is : directories s (namesOf (h .now)) (h .rest) c ≡ counted (byKind s g′ (getD b (j + 4) 0) c e′ a′) (λ y _. directories s (namesOf left) after (c + y))
+          pub is : directories s (namesOf (h .now)) (h .rest) z c ≡ counted (byKind s g′ z (getD b (j + 4) 0) c e′ a′) (λ y _. directories s (namesOf left) after (z + 1) (c + y))
           pub goes : frames s fuel e′ ≡ files after
           pub lies : Lies b (j + 2 + two b j) end left
 
@@ -164,23 +171,23 @@ module _ {s : List ℕ} {at : ℕ} {a b u v : List ℕ} {i end o k j n p c : ℕ
             go (last q _) = absurd (omega arith)
             go (found nm left q _ t _ _ y) =
                 let f = chain-more s (h .turns) n (h .rest) m (h .chain) in
-                let i = is-framed n r (f .0) (sym (f .4) ∙ e) z in
-                record { left = left; after = f .1; fuel = f .2; is = one-file s (namesOf (h .now)) (namesOf left) nm (h .rest) (f .1) (f .0) c (getD b (j + 4) 0) g′ a′ e′ q (f .3) t (i .0) (i .2) (i .3); goes = rw (i .3) at (f .5); lies = y }
+                let i = is-framed n r (f .0) (sym (f .4) ∙ e) q′ in
+                record { left = left; after = f .1; fuel = f .2; is = one-file s (namesOf (h .now)) (namesOf left) nm (h .rest) (f .1) (f .0) z c (getD b (j + 4) 0) g′ a′ e′ q (f .3) t (i .0) (i .2) (i .3); goes = rw (i .3) at (f .5); lies = y }
 
         pub turning-fell : {f : Fault} {y : ℕ} → w ≡ many.Fails f y → FilesTold s at a b′ u v′ i end o k (many.Fails f y)
         turning-fell {f} {y} q =
             let t = stepped in
-            record { is = λ rs fs g x′ g′. rw (sym (h .whole rs fs g x′ g′), t .is, failed (λ y _. directories s (namesOf (t .left)) (t .after) (c + y)) (rw q at d)) (fellFiles (objects-same d ∙ h .same) (objects-kept d ∙ h .kept)) }
+            record { is = λ rs fs g x′ g′. rw (sym (h .whole rs fs g x′ g′), t .is, failed (λ y _. directories s (namesOf (t .left)) (t .after) (z + 1) (c + y)) (rw q at d)) (fellFiles (objects-same d ∙ h .same) (objects-kept d ∙ h .kept)) }
           where
             failed : (g : ℕ → ℕ → Res) {t : Res} → DidObjects b b′ v v′ p a′ e′ c t (many.Fails f y) → counted t g ≡ fails f y
             failed g (fellObjects _ _) = refl
 
         -- the file was read
-        module _ {y q c′ : ℕ} (g : w ≡ many.Took y q c′) (hi : e′ ≤ length s) where
+        module _ {y q c′ : ℕ} (g : w ≡ many.Took y q c′) (hi : e′ ≤ length s) (lo : n < e′) where
           pub turning-lies : {l′ : ℕ} → l′ ≡ two b j → Holds b′ (j + 2 + l′) end
           turning-lies z′ = rw z′ (let t = stepped in let x′ = objects-open (rw g at d) in record { rs = t .left; lies = put-lies (x′ .3) (h .behind) (t .lies) })
 
-          pub turning-again : {l′ j′ : ℕ} → l′ ≡ two b j → NameTold b′ (j + 2 + l′) end j′ → Turning s at a b′ u v′ i end o k j′ e′ q c′
+          pub turning-again : {l′ j′ : ℕ} → l′ ≡ two b j → NameTold b′ (j + 2 + l′) end j′ → Turning s at a b′ u v′ i end o k j′ e′ q c′ (z + 1)
           turning-again {l′} {j′} z′ nt′ =
               let nt : NameTold b′ (j + 2 + two b j) end j′ = rw z′ at nt′ in
               let t = stepped in
@@ -197,12 +204,13 @@ module _ {s : List ℕ} {at : ℕ} {a b u v : List ℕ} {i end o k j n p c : ℕ
                 put = put-then (h .put) (x′ .3) (sym (encode-append (h .ds) (x′ .0)));
                 marks = put-put (h .marks) (x′ .4);
                 whole = λ rs fs l′ m′ n′.
-                    let one : directories s (namesOf (h .now)) (h .rest) c ≡ also (x′ .0) (x′ .1) (directories s (namesOf (t .left)) (t .after) c′) = t .is ∙ counted-took (byKind s g′ (getD b (j + 4) 0) c e′ a′) (λ y _. directories s (namesOf (t .left)) (t .after) (c + y)) (x′ .2) ∙ ap (λ (y : ℕ). also (x′ .0) (x′ .1) (directories s (namesOf (t .left)) (t .after) y)) cnt in
-                    sym (also-also (h .ds) (x′ .0) (h .ns) (x′ .1) (directories s (namesOf (t .left)) (t .after) c′)) ∙ ap (also (h .ds) (h .ns)) (sym one) ∙ h .whole rs fs l′ m′ n′;
+                    let one : directories s (namesOf (h .now)) (h .rest) z c ≡ also (x′ .0) (x′ .1) (directories s (namesOf (t .left)) (t .after) (z + 1) c′) = t .is ∙ counted-took (byKind s g′ z (getD b (j + 4) 0) c e′ a′) (λ y _. directories s (namesOf (t .left)) (t .after) (z + 1) (c + y)) (x′ .2) ∙ ap (λ (y : ℕ). also (x′ .0) (x′ .1) (directories s (namesOf (t .left)) (t .after) (z + 1) y)) cnt in
+                    sym (also-also (h .ds) (x′ .0) (h .ns) (x′ .1) (directories s (namesOf (t .left)) (t .after) (z + 1) c′)) ∙ ap (also (h .ds) (h .ns)) (sym one) ∙ h .whole rs fs l′ m′ n′;
                 high = hi;
                 room = omega (arith, objects-small d g, objects-high d g);
                 behind = omega (arith, h .behind, x′ .3 .at);
                 few = objects-few d g;
+                number = omega (arith, h .number);
                 same = objects-same d ∙ h .same;
                 kept = objects-kept d ∙ h .kept;
               }
@@ -220,6 +228,9 @@ module _ {s : List ℕ} {n : ℕ} {r : Framed} (h : Path s n r) {k x a e : ℕ} 
 
   pub file-place : {p : ℕ} → p ≤ 8 * n + 131072 → p ≤ 8 * a + 131072
   file-place l = omega (arith, h .is k x a e z)
+
+  pub file-low : n < e
+  file-low = omega (arith, h .is k x a e z)
 
   pub file-less : n < length s → length s - e < length s - n
   file-less l = omega (arith, h .is k x a e z)

@@ -34,6 +34,7 @@ use Rattle.rules.specs.declared.outcome.Outcome.{Outcome}
 use Rattle.rules.specs.declared.outcome.Outcome.the-variants.{Accepted, Refused}
 use Rattle.rules.specs.Reading.{Rec, Res, took}
 use Rattle.rules.specs.Files.{File, files, frames, namesOf, paths, firstAgain, follow, directories, repeated, cia, od, dir, accepted, refused, Answer, onRes, andAlso, onCheck, frame, readFiles, readParts, readFrom, hasDir, readDump}
+use Rattle.rules.specs.Grammar.{origin}
 use Rattle.rules.specs.Book.{encode}
 use Rattle.rules.specs.LookLaws.{Laid, size, laid-append}
 use Rattle.rules.specs.ReadLaws.{cia-kept, od-kept}
@@ -73,15 +74,15 @@ module _ {s a : List ℕ} {stop i end : ℕ} {u : List ℕ} {k : ℕ} (op : Open
     pub record FilesOpen (fs : List File) (cs : List Rec) : Type 0 where
       pub ds : List Rec
       pub ns : List ℕ
-      pub are : directories s (namesOf cs) fs k ≡ took ds ns 0
+      pub are : directories s (namesOf cs) fs 1 k ≡ took ds ns 0
       pub put : Put a b end n (encode ds)
       pub marks : Put u v k j ns
       pub few : j ≤ 128
 
     files-open : (fs : List File) (cs : List Rec) → frames s (length s) stop ≡ files fs → Lies a i end cs → FilesOpen fs cs
-    files-open fs cs c l = go q (directories s (namesOf cs) fs k) refl (rw y at (d .is cs fs (length s) l c))
+    files-open fs cs c l = go q (directories s (namesOf cs) fs 1 k) refl (rw y at (d .is cs fs (length s) l c))
       where
-        go : (q′ : ℕ) (t : Res) → directories s (namesOf cs) fs k ≡ t → DidFiles a b u v end k t (many.Took q′ n j) → FilesOpen fs cs
+        go : (q′ : ℕ) (t : Res) → directories s (namesOf cs) fs 1 k ≡ t → DidFiles a b u v end k t (many.Took q′ n j) → FilesOpen fs cs
         go _ _ e (didFiles {ds = ds} {ns = ns} f h w) = record { ds = ds; ns = ns; are = e; put = f; marks = h; few = w }
 
     pub files-marks : j ≤ length v
@@ -99,7 +100,7 @@ module _ {s a : List ℕ} {stop i end : ℕ} {u : List ℕ} {k : ℕ} (op : Open
   -- no path is
   module _ {again : ℕ} (e : again ≡ 0) where
     never : (o : File) (fs : List File) (bs cs : List Rec) (ms : List ℕ) → PathsTold s stop (o .start) (paths (namesOf cs)) again →
-        readFiles s o fs bs cs ms ≡ onCheck (follow s (namesOf cs) fs) (λ _. onRes (directories s (namesOf cs) fs (length ms)) (λ ds ns. onCheck (repeated [] 0 (ms ++ ns) (cs ++ ds)) (λ _. accepted (bs ++ (cs ++ ds)))))
+        readFiles s o fs bs cs ms ≡ onCheck (follow s (namesOf cs) fs) (λ _. onRes (directories s (namesOf cs) fs 1 (length ms)) (λ ds ns. onCheck (repeated [] 0 (ms ++ ns) (cs ++ ds)) (λ _. accepted (bs ++ (cs ++ ds)))))
     unfolding readFiles
     never o fs bs cs ms t = rw (t .never e, le-ltb (length (paths (namesOf cs))) (length (paths (namesOf cs))) (omega arith)) refl
 
@@ -109,7 +110,7 @@ module _ {s a : List ℕ} {stop i end : ℕ} {u : List ℕ} {k : ℕ} (op : Open
 
     module _ {w : Followed} (g : FollowTold s stop a i end w) (z : w ≡ Fine) where
       fine-so : (o : File) (fs : List File) (bs cs : List Rec) (ms : List ℕ) → frames s (length s) stop ≡ files fs → Opening s stop a i end u k cs ms → PathsTold s stop (o .start) (paths (namesOf cs)) again →
-          readFiles s o fs bs cs ms ≡ onRes (directories s (namesOf cs) fs k) (λ ds ns. onCheck (repeated [] 0 (ms ++ ns) (cs ++ ds)) (λ _. accepted (bs ++ (cs ++ ds))))
+          readFiles s o fs bs cs ms ≡ onRes (directories s (namesOf cs) fs 1 k) (λ ds ns. onCheck (repeated [] 0 (ms ++ ns) (cs ++ ds)) (λ _. accepted (bs ++ (cs ++ ds))))
       fine-so o fs bs cs ms c l t =
           let m : length ms ≡ k = rw (← l .marks) (length-take-le k u (omega (arith, l .few, l .many))) in
           rw (never o fs bs cs ms t, g .is cs fs (length s) (l .lies) c, z, m) refl
@@ -127,11 +128,11 @@ module _ {s a : List ℕ} {stop i end : ℕ} {u : List ℕ} {k : ℕ} (op : Open
           module _ {fs : List File} {cs : List Rec} {ms : List ℕ} (c : frames s (length s) stop ≡ files fs) (l : Opening s stop a i end u k cs ms) (f : FilesOpen d y fs cs) where
             bounded : (size (f .ds) ≤ 4 * (length s - stop)) × Laid (length s) (f .ds)
             bounded =
-                let x = dirs-read s bytes (op .frame .small) (namesOf cs) fs (length s) stop k (op .frame .high) (l .few) c (g .is cs fs (length s) (l .lies) c ∙ ap followedAs z) (f .are) in
+                let x = dirs-read s bytes (op .frame .small) 1 (namesOf cs) fs (length s) stop k (op .frame .high) (l .few) c (g .is cs fs (length s) (l .lies) c ∙ ap followedAs z) (f .are) in
                 let m : length (slice stop (length s) s) ≡ length s - stop = length-slice stop (length s) s (le-refl (length s)) in
-                let r = files-renders (namesOf cs) in
-                let n : length (card.files (namesOf cs) .bytes (x .it)) ≡ length s - stop = ap length (sym (x .bytes)) ∙ m in
-                (rw (x .book) (omega (arith, r .bound (x .it) (x .meets))), rw (x .book) (r .laid (x .it) (x .meets) (length s) (omega arith)))
+                let r = files-renders 1 (namesOf cs) in
+                let n : length (card.files 1 (namesOf cs) .bytes (x .it)) ≡ length s - stop = ap length (sym (x .bytes)) ∙ m in
+                (rw (x .book origin) (omega (arith, r .bound origin (x .it) (x .meets))), rw (x .book origin) (r .laid origin (x .it) (x .meets) (length s) (omega arith)))
 
             fits : n ≤ length a
             fits = omega (arith, f .put .at, book-size (f .ds), bounded .0, l .room, op .frame .high, op .frame .small, op .frame .wide)

@@ -18,4 +18,4 @@ pub data DidFiles (a b u v : List ℕ) (o k : ℕ) : Res → Many → Type 0 whe
   fellFiles : {f : Fault} {p : ℕ} → length b ≡ length a → length v ≡ length u → DidFiles a b u v o k (fails f p) (many.Fails f p)
 
 pub record FilesTold (s : List ℕ) (at : ℕ) (a b u v : List ℕ) (i end o k : ℕ) (r : Many) : Type 0 where
-  pub is : (rs : List Rec) (fs : List File) (g : ℕ) → Lies a i end rs → frames s g at ≡ files fs → DidFiles a b u v o k (directories s (namesOf rs) fs k) r
+  pub is : (rs : List Rec) (fs : List File) (g : ℕ) → Lies a i end rs → frames s g at ≡ files fs → DidFiles a b u v o k (directories s (namesOf rs) fs 1 k) r

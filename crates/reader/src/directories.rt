@@ -28,23 +28,25 @@ pub fn directories(
     let mut n = at;
     let mut p = o;
     let mut c = k;
+    let mut f: u16 = 1;
     while j < end {
         if s.len() <= n {
             return Many::Took(0, p, c);
         }
         match named_frame(s, n) {
-            Framed::Broken(f, x) => {
-                return Many::Fails(f, x);
+            Framed::Broken(g, x) => {
+                return Many::Fails(g, x);
             }
             Framed::File(kind, _, a, e) => {
                 let m = j + 2 + word(out, j);
-                match file_of(s, kind, out[j + 4], c, e, a, out, p, marks) {
-                    Many::Fails(f, x) => {
-                        return Many::Fails(f, x);
+                match file_of(s, kind, f, out[j + 4], c, e, a, out, p, marks) {
+                    Many::Fails(g, x) => {
+                        return Many::Fails(g, x);
                     }
                     Many::Took(_, q, d) => {
                         p = q;
                         c = d;
+                        f += 1;
                         n = e;
                         j = next_name(out, m, end);
                     }

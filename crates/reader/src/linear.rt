@@ -2,6 +2,7 @@ use files::Holder;
 use files::held;
 use objects::Many;
 use objects::put_bare;
+use rules::Site;
 use rules::word;
 ghost use Prim.Native.Nat.{_+_, _*_, _≤_};
 ghost use Rattle.rules.specs.Files.{linear};
@@ -13,6 +14,7 @@ ghost use Rattle.reader.specs.Linear.{recordsIn, byKind};
 // The records of a record file in turn, after k objects.
 fn records(
     s: &[u8],
+    site: Site,
     entry: u8,
     k: usize,
     end: usize,
@@ -22,14 +24,26 @@ fn records(
     marks: &mut [u32],
 ) -> Many
     requires { ⌜ (k ≤ 128) × Fit (now s) end at × InContainer (now s) end at o ⌝ }
-    ensures { λ r. ⌜ DidObjects (now (out .entry)) (now (out .exit)) (now (marks .entry)) (now (marks .exit)) o at end k (recordsIn (now (s .entry)) entry k end at) r ⌝ }
+    ensures { λ r. ⌜ DidObjects (now (out .entry)) (now (out .exit)) (now (marks .entry)) (now (marks .exit)) o at end k (recordsIn (now (s .entry)) site entry k end at) r ⌝ }
 {
     let mut j = k;
     let mut n = at;
     let mut p = o;
     while n < end {
         let e = n + 2 + word(s, n);
-        match held(s, Holder::Record, 0x011a, entry, j, e, n + 2, out, p, marks) {
+        match held(
+            s,
+            Holder::Record,
+            0x011a,
+            site,
+            entry,
+            j,
+            e,
+            n + 2,
+            out,
+            p,
+            marks,
+        ) {
             Many::Fails(f, x) => {
                 return Many::Fails(f, x);
             }
@@ -43,9 +57,10 @@ fn records(
     Many::Took(n, p, j)
 }
 
-// A record file: its records behind its 0119.
+// A record file, the nth: its records behind its 0119.
 fn linear(
     s: &[u8],
+    n: u16,
     entry: u8,
     k: usize,
     end: usize,
@@ -55,16 +70,21 @@ fn linear(
     marks: &mut [u32],
 ) -> Many
     requires { ⌜ (k ≤ 128) × Fit (now s) end at × (o + 4 ≤ 8 * at + 131072) × InContainer (now s) end at o ⌝ }
-    ensures { λ r. ⌜ DidObjects (now (out .entry)) (now (out .exit)) (now (marks .entry)) (now (marks .exit)) o at end k (linear (now (s .entry)) entry k end at) r ⌝ }
+    ensures { λ r. ⌜ DidObjects (now (out .entry)) (now (out .exit)) (now (marks .entry)) (now (marks .exit)) o at end k (linear (now (s .entry)) n entry k end at) r ⌝ }
 {
     let q = put_bare(out, o, 0x0119);
-    records(s, entry, k, end, at, out, q, marks)
+    let site = Site {
+        number: n,
+        start: at,
+    };
+    records(s, site, entry, k, end, at, out, q, marks)
 }
 
-// A file of this kind, after k objects: transparent, or of records.
+// The nth file, of this kind, after k objects: transparent, or of records.
 pub fn file_of(
     s: &[u8],
     kind: usize,
+    n: u16,
     entry: u8,
     k: usize,
     end: usize,
@@ -74,10 +94,26 @@ pub fn file_of(
     marks: &mut [u32],
 ) -> Many
     requires { ⌜ (k ≤ 128) × Sorted (now s) kind end at × (o + 4 ≤ 8 * at + 131072) × InContainer (now s) end at o ⌝ }
-    ensures { λ r. ⌜ DidObjects (now (out .entry)) (now (out .exit)) (now (marks .entry)) (now (marks .exit)) o at end k (byKind (now (s .entry)) kind entry k end at) r ⌝ }
+    ensures { λ r. ⌜ DidObjects (now (out .entry)) (now (out .exit)) (now (marks .entry)) (now (marks .exit)) o at end k (byKind (now (s .entry)) kind n entry k end at) r ⌝ }
 {
     if kind == 3 {
-        return held(s, Holder::File, 0x0118, entry, k, end, at, out, o, marks);
+        let site = Site {
+            number: n,
+            start: at,
+        };
+        return held(
+            s,
+            Holder::File,
+            0x0118,
+            site,
+            entry,
+            k,
+            end,
+            at,
+            out,
+            o,
+            marks,
+        );
     }
-    linear(s, entry, k, end, at, out, o, marks)
+    linear(s, n, entry, k, end, at, out, o, marks)
 }

@@ -3,6 +3,7 @@ use Prim.Native.Nat.{ℕ}
 use mathlib.Core.List.{List, [], _∷_, _++_}
 use mathlib.Core.Bool.{Bool, true, false, not, _||_, _&&_}
 use mathlib.Core.Path.{_≡_, refl}
+use lib.ListN.{length}
 use lib.Dec.{leb, eqb, T}
 use borrow.Author.Tests.{eqb-true}
 use Rattle.elements.specs.Sealed.{among}
@@ -12,8 +13,9 @@ use Rattle.rules.specs.declared.table.ObjectType.{ObjectType}
 use Rattle.rules.specs.Reading.{Rec}
 use Rattle.rules.specs.Tables.{classOf, typeOf}
 use Rattle.rules.specs.TestLaws.{and-left, and-right}
+use Rattle.rules.specs.Grammar.{Where, _on_}
 use Rattle.rules.specs.Kinds.{Among, none-there, there}
-use Rattle.rules.specs.Layout.{Layout, maybe}
+use Rattle.rules.specs.Layout.{Layout, _and_, ended, apart, due, maybe}
 use Rattle.rules.specs.Layouts as layouts
 
 -- an object's records reach up to the next 0120, 0110, 0107, 0118, 0119, 011A, EF.DIR's 0200 or the end
@@ -53,30 +55,39 @@ inner-append : (rs ss : List Rec) → T (inner rs) → T (inner ss) → T (inner
 inner-append [] ss h g = g
 inner-append (r ∷ rs) ss h g = both (not (closing (r .kind))) (inner (rs ++ ss)) (and-left (not (closing (r .kind))) (inner rs) h) (inner-append rs ss (and-right (not (closing (r .kind))) (inner rs) h) g)
 
--- a layout without such kinds
-inner-layout : (P : Layout) → T (openKinds (P .all)) → (x : P .part .Of) → T (inner (P .part .book x))
-inner-layout P t x = inner-among (P .all) t (P .only x)
+-- none of a layout's records does
+abbrev Inner : Layout → Type 0
+Inner P = (v : Where) (x : P .part .Of) → T (inner (P .part .book v x))
 
-class-inner : (c : Class) (x : layouts.class c .part .Of) → T (inner (layouts.class c .part .book x))
+-- one without such kinds
+inner-layout : (P : Layout) → T (openKinds (P .all)) → Inner P
+inner-layout P t v x = inner-among (P .all) t (P .only v x)
+
+-- one after the other
+and-inner : (P Q : Layout) → Inner P → Inner Q → Inner (P and Q)
+and-inner P Q f g v (x, y) = inner-append (P .part .book v x) (Q .part .book (v on length (P .part .bytes x)) y) (f v x) (g (v on length (P .part .bytes x)) y)
+
+class-inner : (c : Class) → Inner (layouts.class c)
 unfolding layouts.class
-class-inner Keys x = inner-layout (layouts.class Keys) tt x
-class-inner Certificates x = inner-layout (layouts.class Certificates) tt x
-class-inner Authentications x = inner-layout (layouts.class Authentications) tt x
-class-inner Containers x = inner-layout (layouts.class Containers) tt x
+class-inner Keys = inner-layout (layouts.class Keys) tt
+class-inner Certificates = inner-layout (layouts.class Certificates) tt
+class-inner Authentications = inner-layout (layouts.class Authentications) tt
+class-inner Containers = inner-layout (layouts.class Containers) tt
 
-type-inner : (t : ObjectType) (x : layouts.typed t .part .Of) → T (inner (layouts.typed t .part .book x))
+type-inner : (t : ObjectType) → Inner (layouts.typed t)
 unfolding layouts.insides
-type-inner t x = inner-layout (layouts.typed t) tt x
+type-inner t = inner-layout (layouts.typed t) tt
 
 -- what stands in an object closes none, and CIAInfo's records don't
-pub contents-inner : (entry tag : ℕ) (x : layouts.contents entry tag .part .Of) → T (inner (layouts.contents entry tag .part .book x))
+pub contents-inner : (entry tag : ℕ) → Inner (layouts.contents entry tag)
 unfolding layouts.contents layouts.common layouts.rules layouts.rule layouts.subclass
-contents-inner entry tag (((x, y), z), w) =
-    let a = layouts.common .part .book x in
-    let b = layouts.class (classOf entry) .part .book y in
-    let c = maybe 0xa0 layouts.subclass .part .book z in
-    inner-append (a ++ b ++ c) (layouts.typed (typeOf entry tag) .part .book w) (inner-append (a ++ b) c (inner-append a b (inner-layout layouts.common tt x) (class-inner (classOf entry) y)) (inner-layout (maybe 0xa0 layouts.subclass) tt z)) (type-inner (typeOf entry tag) w)
+contents-inner entry tag =
+    let a = due 0x30 layouts.common in
+    let b = due 0x30 (layouts.class (classOf entry)) in
+    let c = maybe 0xa0 layouts.subclass in
+    let d = due 0xa1 (ended (apart (layouts.typed (typeOf entry tag)))) in
+    and-inner (a and b and c) d (and-inner (a and b) c (and-inner a b (inner-layout a tt) (λ v x. class-inner (classOf entry) _ x)) (inner-layout c tt)) (λ v x. type-inner (typeOf entry tag) _ x)
 
-pub info-inner : (x : layouts.cia .part .Of) → T (inner (layouts.cia .part .book x))
+pub info-inner : Inner layouts.cia
 unfolding layouts.cia layouts.info
-info-inner x = inner-layout layouts.cia tt x
+info-inner = inner-layout layouts.cia tt

@@ -19,7 +19,7 @@ use Rattle.rules.specs.Tables.{pathRowsFrom, passwordRows, templateRows}
 use Rattle.rules.specs.Rulings.{has, same, paired, flagged, ours, unreached, reached}
 use Rattle.rules.specs.ValueLaws.{number-le32}
 use Rattle.rules.specs.FaultLaws.{ofReading}
-use Rattle.rules.specs.Grammar.{Part, _and_, optional, tagged, behind, rest, fields}
+use Rattle.rules.specs.Grammar.{Where, Part, _and_, optional, tagged, behind, rest, fields}
 use Rattle.rules.specs.Lawful.{Judges, passes, refuses, Checks}
 
 no-refusal : {A : Type 0} (f : Fault) (p : ℕ) (bs : List Rec) (ms : List ℕ) (n : ℕ) → fails f p ≡ took bs ms n → A
@@ -59,11 +59,11 @@ is-both none (some l) e = absurd e
 is-both (some i) none e = absurd e
 is-both (some i) (some l) e = refl
 
-tested : (k : ℕ) (p : List ℕ) (i l : Option ℤ) → same (has (k + 1) (fields (pathRowsFrom k) .book (p, (i, (l, tt))))) (has (k + 2) (fields (pathRowsFrom k) .book (p, (i, (l, tt))))) ≡ both i l
-tested k p none none = rw (ne-eqb k (k + 1) (omega arith), ne-eqb k (k + 2) (omega arith)) refl
-tested k p none (some l) = rw (ne-eqb k (k + 1) (omega arith), ne-eqb k (k + 2) (omega arith), ne-eqb (k + 2) (k + 1) (omega arith), eq-eqb (k + 2) (k + 2) refl) refl
-tested k p (some i) none = rw (ne-eqb k (k + 1) (omega arith), ne-eqb k (k + 2) (omega arith), ne-eqb (k + 1) (k + 2) (omega arith), eq-eqb (k + 1) (k + 1) refl) refl
-tested k p (some i) (some l) = rw (ne-eqb k (k + 1) (omega arith), ne-eqb k (k + 2) (omega arith), ne-eqb (k + 2) (k + 1) (omega arith), ne-eqb (k + 1) (k + 2) (omega arith), eq-eqb (k + 1) (k + 1) refl, eq-eqb (k + 2) (k + 2) refl) refl
+tested : (k : ℕ) (v : Where) (p : List ℕ) (i l : Option ℤ) → same (has (k + 1) (fields (pathRowsFrom k) .book v (p, (i, (l, tt))))) (has (k + 2) (fields (pathRowsFrom k) .book v (p, (i, (l, tt))))) ≡ both i l
+tested k v p none none = rw (ne-eqb k (k + 1) (omega arith), ne-eqb k (k + 2) (omega arith)) refl
+tested k v p none (some l) = rw (ne-eqb k (k + 1) (omega arith), ne-eqb k (k + 2) (omega arith), ne-eqb (k + 2) (k + 1) (omega arith), eq-eqb (k + 2) (k + 2) refl) refl
+tested k v p (some i) none = rw (ne-eqb k (k + 1) (omega arith), ne-eqb k (k + 2) (omega arith), ne-eqb (k + 1) (k + 2) (omega arith), eq-eqb (k + 1) (k + 1) refl) refl
+tested k v p (some i) (some l) = rw (ne-eqb k (k + 1) (omega arith), ne-eqb k (k + 2) (omega arith), ne-eqb (k + 2) (k + 1) (omega arith), ne-eqb (k + 1) (k + 2) (omega arith), eq-eqb (k + 1) (k + 1) refl, eq-eqb (k + 2) (k + 2) refl) refl
 
 -- a test that lets pass says what is tested
 let-pass : (b : Bool) (f : Fault) (p : ℕ) (bs : List Rec) (ms : List ℕ) (n : ℕ) → choose b (λ _. took bs ms n) (λ _. fails f p) ≡ took bs ms n → b ≡ true
@@ -74,8 +74,8 @@ pub pairs : (k : ℕ) → Checks (fields (pathRowsFrom k)) (paired k) (λ (p, (i
 pairs k = record {
   fallen = λ own x p. refl;
   judges = λ own bs ms n. judge own PathPair tt (took bs ms n) (same (has (k + 1) bs) (has (k + 2) bs));
-  sound = λ own y m ms n e. both-is (y .1 .0) (y .1 .1 .0) (sym (tested k (y .0) (y .1 .0) (y .1 .1 .0)) ∙ let-pass (same (has (k + 1) (fields (pathRowsFrom k) .book y)) (has (k + 2) (fields (pathRowsFrom k) .book y))) PathPair own (fields (pathRowsFrom k) .book y) ms n e);
-  complete = λ own y m z ms n. rw (tested k (y .0) (y .1 .0) (y .1 .1 .0), is-both (y .1 .0) (y .1 .1 .0) z) refl;
+  sound = λ own v y m ms n e. both-is (y .1 .0) (y .1 .1 .0) (sym (tested k v (y .0) (y .1 .0) (y .1 .1 .0)) ∙ let-pass (same (has (k + 1) (fields (pathRowsFrom k) .book v y)) (has (k + 2) (fields (pathRowsFrom k) .book v y))) PathPair own (fields (pathRowsFrom k) .book v y) ms n e);
+  complete = λ own v y m z ms n. rw (tested k v (y .0) (y .1 .0) (y .1 .1 .0), is-both (y .1 .0) (y .1 .1 .0) z) refl;
 }
 
 -- "pwdFlags bits 6 and 7 both set"
@@ -90,17 +90,17 @@ pub flags : (path : Part) → Checks (passwordPart path) flagged (λ (((bits, _)
 flags path = record {
   fallen = λ own x p. refl;
   judges = flagged-judges;
-  sound = λ own y m ms n e. sound own y m ms n (eqb (number (le32 (y .0 .0 .0)) / 64 % 4) 3) refl e;
-  complete = λ own y m z ms n. rw (is y m, ne-eqb (y .0 .0 .0 / 64 % 4) 3 z) refl;
+  sound = λ own v y m ms n e. sound own v y m ms n (eqb (number (le32 (y .0 .0 .0)) / 64 % 4) 3) refl e;
+  complete = λ own v y m z ms n. rw (is y m, ne-eqb (y .0 .0 .0 / 64 % 4) 3 z) refl;
 }
   where
     is : (y : passwordPart path .Of) → passwordPart path .Meets y → number (le32 (y .0 .0 .0)) ≡ y .0 .0 .0
     is y m = number-le32 (y .0 .0 .0) (m .0 .0 .0 .0)
 
-    sound : (own : ℕ) (y : passwordPart path .Of) → passwordPart path .Meets y → (ms : List ℕ) (n : ℕ) (b : Bool) → eqb (number (le32 (y .0 .0 .0)) / 64 % 4) 3 ≡ b →
-        choose b (λ _. fails PasswordFlags own) (λ _. took (passwordPart path .book y) ms n) ≡ took (passwordPart path .book y) ms n → y .0 .0 .0 / 64 % 4 ≡ 3 → ⊥
-    sound own y m ms n true q e = no-refusal PasswordFlags own (passwordPart path .book y) ms n e
-    sound own y m ms n false q e = rw (is y m) at (eqb-false (number (le32 (y .0 .0 .0)) / 64 % 4) 3 q)
+    sound : (own : ℕ) (v : Where) (y : passwordPart path .Of) → passwordPart path .Meets y → (ms : List ℕ) (n : ℕ) (b : Bool) → eqb (number (le32 (y .0 .0 .0)) / 64 % 4) 3 ≡ b →
+        choose b (λ _. fails PasswordFlags own) (λ _. took (passwordPart path .book v y) ms n) ≡ took (passwordPart path .book v y) ms n → y .0 .0 .0 / 64 % 4 ≡ 3 → ⊥
+    sound own v y m ms n true q e = no-refusal PasswordFlags own (passwordPart path .book v y) ms n e
+    sound own v y m ms n false q e = rw (is y m) at (eqb-false (number (le32 (y .0 .0 .0)) / 64 % 4) 3 q)
 
 -- "5 where a template of ours has neither path nor 73"
 abbrev pub templatePart : Part → Part
@@ -138,10 +138,10 @@ reached-judges : (own : ℕ) (bs : List Rec) (ms : List ℕ) (n : ℕ) → Judge
 reached-judges own [] ms n = passes refl
 reached-judges own (r ∷ bs) ms n = judge-not own Missing tt (took (r ∷ bs) ms n) (ours (r .pay) && unreached bs)
 
-module _ (ddo : Part) (aid : List ℕ) where
+module _ (ddo : Part) (v : Where) (aid : List ℕ) where
   -- the records behind its 4F
   abbrev behindAid : Option (List ℕ) → Option (List ℕ) → Option (ddo .Of) → List ℕ → List Rec
-  behindAid label path inner others = drop 1 (templatePart ddo .book (((aid, (label, (path, tt))), inner), others))
+  behindAid label path inner others = drop 1 (templatePart ddo .book v (((aid, (label, (path, tt))), inner), others))
 
   tells-both : (label path : Option (List ℕ)) (inner : Option (ddo .Of)) (others : List ℕ) → unreached (behindAid label path inner others) ≡ lacksBoth path inner
   tells-both none (some p) none others = refl
@@ -163,18 +163,18 @@ pub reaches : (ddo : Part) → Checks (templatePart ddo) reached (OursReached dd
 reaches ddo = record {
   fallen = λ own x p. refl;
   judges = reached-judges;
-  sound = λ own y m ms n e o. sound own (y .0 .0 .0) (y .0 .0 .1 .0) (y .0 .0 .1 .1 .0) (y .0 .1) (y .1) ms n e o;
-  complete = λ own y m z ms n. complete own (y .0 .0 .0) (y .0 .0 .1 .0) (y .0 .0 .1 .1 .0) (y .0 .1) (y .1) ms n z;
+  sound = λ own v y m ms n e o. sound own v (y .0 .0 .0) (y .0 .0 .1 .0) (y .0 .0 .1 .1 .0) (y .0 .1) (y .1) ms n e o;
+  complete = λ own v y m z ms n. complete own v (y .0 .0 .0) (y .0 .0 .1 .0) (y .0 .0 .1 .1 .0) (y .0 .1) (y .1) ms n z;
 }
   where
-    sound : (own : ℕ) (aid : List ℕ) (label path : Option (List ℕ)) (inner : Option (ddo .Of)) (others : List ℕ) (ms : List ℕ) (n : ℕ) → reached own (took (templatePart ddo .book (((aid, (label, (path, tt))), inner), others)) ms n) ≡ took (templatePart ddo .book (((aid, (label, (path, tt))), inner), others)) ms n →
+    sound : (own : ℕ) (v : Where) (aid : List ℕ) (label path : Option (List ℕ)) (inner : Option (ddo .Of)) (others : List ℕ) (ms : List ℕ) (n : ℕ) → reached own (took (templatePart ddo .book v (((aid, (label, (path, tt))), inner), others)) ms n) ≡ took (templatePart ddo .book v (((aid, (label, (path, tt))), inner), others)) ms n →
         ours aid ≡ true → Reached path inner
-    sound own aid label path inner others ms n e o =
-        lacks-reached path inner (passed ddo aid (ours aid && unreached (behindAid ddo aid label path inner others)) (unreached (behindAid ddo aid label path inner others)) (lacksBoth path inner) refl (tells-both ddo aid label path inner others) own (templatePart ddo .book (((aid, (label, (path, tt))), inner), others)) ms n e o)
+    sound own v aid label path inner others ms n e o =
+        lacks-reached path inner (passed ddo v aid (ours aid && unreached (behindAid ddo v aid label path inner others)) (unreached (behindAid ddo v aid label path inner others)) (lacksBoth path inner) refl (tells-both ddo v aid label path inner others) own (templatePart ddo .book v (((aid, (label, (path, tt))), inner), others)) ms n e o)
 
-    complete : (own : ℕ) (aid : List ℕ) (label path : Option (List ℕ)) (inner : Option (ddo .Of)) (others : List ℕ) (ms : List ℕ) (n : ℕ) → (ours aid ≡ true → Reached path inner) → reached own (took (templatePart ddo .book (((aid, (label, (path, tt))), inner), others)) ms n) ≡ took (templatePart ddo .book (((aid, (label, (path, tt))), inner), others)) ms n
-    complete own aid label path inner others ms n z = go (ours aid) refl
+    complete : (own : ℕ) (v : Where) (aid : List ℕ) (label path : Option (List ℕ)) (inner : Option (ddo .Of)) (others : List ℕ) (ms : List ℕ) (n : ℕ) → (ours aid ≡ true → Reached path inner) → reached own (took (templatePart ddo .book v (((aid, (label, (path, tt))), inner), others)) ms n) ≡ took (templatePart ddo .book v (((aid, (label, (path, tt))), inner), others)) ms n
+    complete own v aid label path inner others ms n z = go (ours aid) refl
       where
-        go : (b : Bool) → ours aid ≡ b → choose (b && unreached (behindAid ddo aid label path inner others)) (λ _. fails Missing own) (λ _. took (templatePart ddo .book (((aid, (label, (path, tt))), inner), others)) ms n) ≡ took (templatePart ddo .book (((aid, (label, (path, tt))), inner), others)) ms n
-        go true o = rw (tells-both ddo aid label path inner others, reached-lacks path inner (z o)) refl
+        go : (b : Bool) → ours aid ≡ b → choose (b && unreached (behindAid ddo v aid label path inner others)) (λ _. fails Missing own) (λ _. took (templatePart ddo .book v (((aid, (label, (path, tt))), inner), others)) ms n) ≡ took (templatePart ddo .book v (((aid, (label, (path, tt))), inner), others)) ms n
+        go true o = rw (tells-both ddo v aid label path inner others, reached-lacks path inner (z o)) refl
         go false o = refl

@@ -20,7 +20,7 @@ use Rattle.rules.specs.Parts as parts
 use Rattle.rules.specs.Parts.{repeat, toEnd}
 use Rattle.rules.specs.Tables.{tagOf, kindOf, sortBy}
 use Rattle.rules.specs.Rulings.{counts, quiet, listed, identified}
-use Rattle.rules.specs.Grammar.{Element, firstOf, Part, Item, empty, flat, one, tagged, with, behind, many, never, raw, total}
+use Rattle.rules.specs.Grammar.{Element, firstOf, Site, Part, Item, empty, flat, one, tagged, with, behind, many, never, raw, total}
 use Rattle.rules.specs.ElementLaws.{is-end, Stands}
 use Rattle.rules.specs.GrammarLaws.{tags, close, Stop, Look, look, Reads, refuses, takes, whole-reads, whole-goes, raw-law, Law, BodyLaw, Plain, ItemLaw, Any, inside-law, ended-law, element-law, tagged-law, shaped-reads, low-tag, low-is, LowTag, by-head}
 use Rattle.rules.specs.ItemLaws.{lift-reads, lift-body, lift-item, narrow, behind-body, sealed-law, list-law, mapped-reads, counts-reads, counts-goes}
@@ -66,9 +66,9 @@ is-other Not e = let z : _≡_ {A = ℕ} 0 1 = cc in absurd (omega arith)
 is-other And e = let z : _≡_ {A = ℕ} 0 1 = cc in absurd (omega arith)
 is-other Or e = let z : _≡_ {A = ℕ} 0 1 = cc in absurd (omega arith)
 
-module _ (s : List ℕ) (bytes : Bytes s) (small : length s ≤ 32768) where
+module _ (site : Site) (s : List ℕ) (bytes : Bytes s) (small : length s ≤ 32768) where
   abbrev SortLaw : Sort → Sorted → Type 0
-  SortLaw x S = ItemLaw s (S .body s) (S .item) (S .inside) 0 255 (OfSort x)
+  SortLaw x S = ItemLaw site s (S .body s) (S .item) (S .inside) 0 255 (OfSort x)
 
   -- a sort that has its tag
   of-tag : (x : Sort) → isOther x ≡ false → (y : Element) → sortBy tagOf (firstOf y) ≡ x → firstOf y ≡ tagOf x
@@ -78,8 +78,8 @@ module _ (s : List ℕ) (bytes : Bytes s) (small : length s ≤ 32768) where
       go z q (found g) = rw (← q) g
       go z q other = absurd (clash (isOther x) (rw (← q) refl) n)
 
-  tag-law : (x : Sort) {b : Body} (P : Part) {c : P .Of → ℕ} → isOther x ≡ false → ((d : List ℕ) → Bare x d) → ((y : Element) → firstOf y ≡ tagOf x → sortBy tagOf (firstOf y) ≡ x) → LowTag (tagOf x) → BodyLaw s b P c 0 255 → ItemLaw s (λ _. b) (tagged (tagOf x) P) c 0 255 (OfSort x)
-  tag-law x P n v w z f = narrow (OfSort x) (λ y d. of-tag x n y (d .0)) (λ y d. (w y d, v (y .contents))) (tagged-law s bytes small (tagOf x) z f)
+  tag-law : (x : Sort) {b : Body} (P : Part) {c : P .Of → ℕ} → isOther x ≡ false → ((d : List ℕ) → Bare x d) → ((y : Element) → firstOf y ≡ tagOf x → sortBy tagOf (firstOf y) ≡ x) → LowTag (tagOf x) → BodyLaw site s b P c 0 255 → ItemLaw site s (λ _. b) (tagged (tagOf x) P) c 0 255 (OfSort x)
+  tag-law x P n v w z f = narrow (OfSort x) (λ y d. of-tag x n y (d .0)) (λ y d. (w y d, v (y .contents))) (tagged-law site s bytes small (tagOf x) z f)
 
   -- "05 00": its header says that nothing is inside
   always-law : (c : Condition) → SortLaw Always (sorts c Always)
@@ -88,7 +88,7 @@ module _ (s : List ℕ) (bytes : Bytes s) (small : length s ≤ 32768) where
     sound = λ x i d end at a e st l.
         let z : a ≡ e = is-end s a e (st .order) (omega (arith, st .inside)) (st .within ∙ d .1) in
         let P = behind empty (λ _. rec (kindOf Always) []) in
-        shaped-reads s bytes small P (sorts c Always .item) (λ _. 0) (tagOf Always) (λ y. y) (λ _. refl) (λ _. refl) (λ _ m. m) (λ _. refl) (low-tag (tagOf Always) tt) x (of-tag Always refl x (d .0)) st
+        shaped-reads site s bytes small at P (sorts c Always .item) (λ _. 0) (tagOf Always) (λ y. y) (λ _. refl) (λ _. refl) (λ _ m. m) (λ _. refl) (low-tag (tagOf Always) tt) x (of-tag Always refl x (d .0)) st (omega (arith, st .inside))
         (lift-reads 0 255 (omega arith) (whole-reads P (rec (kindOf Always) [] ∷ []) tt tt (st .order) (rw z (slice-empty e s)) refl));
     is = λ i y. low-is (tagOf Always) [] (low-tag (tagOf Always) tt);
     begins = λ i y. (refl, refl);
@@ -101,21 +101,21 @@ module _ (s : List ℕ) (bytes : Bytes s) (small : length s ≤ 32768) where
       (lift-body 0 255 (omega arith) (raw-law (rec 0x0127) (λ c. length c ≤ 255) (λ n. leb n 255) (λ c. leb-true (length c) 255) (λ c. le-leb (length c) 255)))
 
   other-law : (c : Condition) → SortLaw Other (sorts c Other)
-  other-law c = narrow (OfSort Other) (λ y d. rw (d .0) refl) (λ y d. (is-other (sortBy tagOf (firstOf y)) d, tt)) (lift-item 0 255 (omega arith) (sealed-law s bytes small (λ t. isOther (sortBy tagOf t)) (kindOf Other) (λ _. [])))
+  other-law c = narrow (OfSort Other) (λ y d. rw (d .0) refl) (λ y d. (is-other (sortBy tagOf (firstOf y)) d, tt)) (lift-item 0 255 (omega arith) (sealed-law site s bytes small (λ t. isOther (sortBy tagOf t)) (kindOf Other) (λ _. [])))
 
-  module _ (c : Condition) (law : (k : ℕ) → k ≤ 255 → Law s (c .read s k) (one (c .item)) (λ _. 1) k 255 condLook) where
+  module _ (c : Condition) (law : (k : ℕ) → k ≤ 255 → Law site s (c .read s k) (one (c .item)) (λ _. 1) k 255 condLook) where
     not-law : SortLaw Not (sorts c Not)
     unfolding sortBy
-    not-law = tag-law Not (behind (one (c .item)) (λ _. rec (kindOf Not) [])) refl (λ _. tt) (λ y e. rw e refl) (low-tag 0xa0 tt) (behind-body (rec (kindOf Not) []) (inside-law (ended-law s bytes small (law 0 (omega arith))) refl))
+    not-law = tag-law Not (behind (one (c .item)) (λ _. rec (kindOf Not) [])) refl (λ _. tt) (λ y e. rw e refl) (low-tag 0xa0 tt) (behind-body (rec (kindOf Not) []) (inside-law (ended-law site s bytes small (law 0 (omega arith))) refl))
 
     abbrev listPart : ℕ → Part
     listPart kind = behind (with (many (one (c .item))) Several) (λ x. rec kind (le16 (length x)))
 
-    listed-reads : (kind at e : ℕ) {r : Res} → e ≤ length s → Reads s (many (one (c .item))) (total (λ _. 1)) 0 255 close e at r → Reads s (listPart kind) (λ _. 0) 0 255 close e at (listed kind e r)
+    listed-reads : (kind at e : ℕ) {r : Res} → e ≤ length s → Reads site s (many (one (c .item))) (total (λ _. 1)) 0 255 close e at r → Reads site s (listPart kind) (λ _. 0) 0 255 close e at (listed kind e r)
     listed-reads kind at e l (refuses p o) = refuses p o
     listed-reads kind at e l (takes {rs = rs} {ms = ms} {n = n} f) =
         let z : length ms ≡ length (f .it) = f .counted ∙ total-length (f .it) in
-        by-choose (Reads s (listPart kind) (λ _. 0) 0 255 close e at) (leb 2 (length ms))
+        by-choose (Reads site s (listPart kind) (λ _. 0) 0 255 close e at) (leb 2 (length ms))
         (λ _ u. takes {rs = rec kind (le16 (length ms)) ∷ rs} {ms = []} {n = n} (record {
           it = f .it;
           meets = (f .meets, (omega (arith, leb-true 2 (length ms) u), omega (arith, f .room, f .counted)));
@@ -130,7 +130,7 @@ module _ (s : List ℕ) (bytes : Bytes s) (small : length s ≤ 32768) where
         }))
         (λ _ _. refuses e (l, tt))
 
-    list-body : (kind : ℕ) → BodyLaw s (λ at a e. listed kind e (repeat toEnd (λ j f i. c .read s j f i) (e - a) 0 e a)) (listPart kind) (λ _. 0) 0 255
+    list-body : (kind : ℕ) → BodyLaw site s (λ at a e. listed kind e (repeat toEnd (λ j f i. c .read s j f i) (e - a) 0 e a)) (listPart kind) (λ _. 0) 0 255
     list-body kind =
         let f = list-law small (λ j f i. c .read s j f i) law tt refl 0 (omega arith) in
         record {
@@ -190,15 +190,15 @@ module _ (s : List ℕ) (bytes : Bytes s) (small : length s ≤ 32768) where
             let z : a ≡ e = is-end s a e (st .order) (omega (arith, st .inside)) (st .within ∙ v) in
             le-ltb a e (omega arith)
 
-    here-law : (nth : ℕ) → nth ≤ 255 → ItemLaw s (bodyBySort (sorts c) s nth) here inHere 0 255 Any
+    here-law : (nth : ℕ) → nth ≤ 255 → ItemLaw site s (bodyBySort (sorts c) s nth) here inHere 0 255 Any
     unfolding bodyBySort
     here-law nth h = record {
       sound = λ y i _ end at a e st l.
           let t = firstOf y in
           let o : at ≤ length s = omega (arith, st .after, st .order, st .inside) in
-          by-choose (Reads s (one here) inHere 0 255 close e at) (eqb t (tagOf Always) && ltb a e) (λ _ _. refuses at (o, tt)) (λ _ q.
-          by-choose (Reads s (one here) inHere 0 255 close e at) (ltb 255 nth) (λ _ _. refuses at (o, tt)) (λ _ _.
-          mapped-reads (sorts c (sortBy tagOf t) .item) here inHere (λ j. (sortBy tagOf t, j)) (λ _. refl) (λ _. refl) (λ _ m. m) (λ _. refl)
+          by-choose (Reads site s (one here) inHere 0 255 close e at) (eqb t (tagOf Always) && ltb a e) (λ _ _. refuses at (o, tt)) (λ _ q.
+          by-choose (Reads site s (one here) inHere 0 255 close e at) (ltb 255 nth) (λ _ _. refuses at (o, tt)) (λ _ _.
+          mapped-reads (sorts c (sortBy tagOf t) .item) here inHere (λ j. (sortBy tagOf t, j)) (λ _. refl) (λ _ _. refl) (λ _ m. m) (λ _. refl)
           (sort-law (sortBy tagOf t) .sound y i (refl, bare (sortBy tagOf t) t a e (st .order) (omega (arith, st .inside)) (found-sort tagOf t) q (y .contents) (st .within)) end at a e st l)));
       is = λ i m. sort-law (i .0) .is (i .1) m;
       begins = λ _ _. tt;
@@ -206,22 +206,22 @@ module _ (s : List ℕ) (bytes : Bytes s) (small : length s ≤ 32768) where
     }
 
     -- the 256th
-    none-more : (k end at : ℕ) → 255 < k + 1 → at ≤ end → end ≤ length s → Reads s (one here) (λ _. 1) k 255 (tags []) end at (bySort (sorts c) .read s k end at)
+    none-more : (k end at : ℕ) → 255 < k + 1 → at ≤ end → end ≤ length s → Reads site s (one here) (λ _. 1) k 255 (tags []) end at (bySort (sorts c) .read s k end at)
     unfolding parts.element bodyBySort
     none-more k end at h i l =
-        let Z : Res → Type 0 = λ x. Reads s (one here) (λ _. 1) k 255 (tags []) end at (counts at x) in
+        let Z : Res → Type 0 = λ x. Reads site s (one here) (λ _. 1) k 255 (tags []) end at (counts at x) in
         by-choose Z (ltb at end)
         (λ _ _. by-head s bytes small Z (parts.whatever (bodyBySort (sorts c) s (k + 1)) at) end at i l (λ _ p o. refuses p o)
         (λ t a e v. by-choose Z (eqb t (tagOf Always) && ltb a e) (λ _ _. refuses at (omega arith, tt)) (λ _ _. rw (lt-ltb 255 (k + 1) h) (refuses at (omega arith, tt)))))
         (λ _ _. refuses end (l, tt))
 
-    by-sort-law : (k : ℕ) → k ≤ 255 → Law s (bySort (sorts c) .read s k) (one here) (λ _. 1) k 255 condLook
+    by-sort-law : (k : ℕ) → k ≤ 255 → Law site s (bySort (sorts c) .read s k) (one here) (λ _. 1) k 255 condLook
     by-sort-law k h = go (ltb 255 (k + 1)) refl
       where
-        next : (k : ℕ) → k + 1 ≤ 255 → Law s (parts.element s (bodyBySort (sorts c) s (k + 1))) (one here) inHere 0 255 condLook
-        next k h = element-law s bytes small (λ _. true) (here-law (k + 1) h) (λ _ _. refl)
+        next : (k : ℕ) → k + 1 ≤ 255 → Law site s (parts.element s (bodyBySort (sorts c) s (k + 1))) (one here) inHere 0 255 condLook
+        next k h = element-law site s bytes small (λ _. true) (here-law (k + 1) h) (λ _ _. refl)
 
-        go : (b : Bool) → ltb 255 (k + 1) ≡ b → Law s (bySort (sorts c) .read s k) (one here) (λ _. 1) k 255 condLook
+        go : (b : Bool) → ltb 255 (k + 1) ≡ b → Law site s (bySort (sorts c) .read s k) (one here) (λ _. 1) k 255 condLook
         go false e =
             let z : k + 1 ≤ 255 = ltb-false 255 (k + 1) e in
             let f = next k z in
@@ -238,20 +238,20 @@ module _ (s : List ℕ) (bytes : Bytes s) (small : length s ≤ 32768) where
               complete = λ end at i l x y r w v q. absurd (omega arith);
             }
 
-  pub condition-law : (l k : ℕ) → k ≤ 255 → Law s (condition l .read s k) (one (condition l .item)) (λ _. 1) k 255 condLook
+  pub condition-law : (l k : ℕ) → k ≤ 255 → Law site s (condition l .read s k) (one (condition l .item)) (λ _. 1) k 255 condLook
   unfolding condition
   condition-law zero k h = record {
-    sound = λ end at i l. by-choose (Reads s (one never) (λ _. 1) k 255 (tags []) end at) (ltb at end) (λ _ _. refuses at (omega arith, tt)) (λ _ _. refuses end (l, tt));
+    sound = λ end at i l. by-choose (Reads site s (one never) (λ _. 1) k 255 (tags []) end at) (ltb at end) (λ _ _. refuses at (omega arith, tt)) (λ _ _. refuses end (l, tt));
     starts = λ x y. absurd x;
     complete = λ end at i l x y r w v e. absurd x;
   }
   condition-law (suc l) k h = by-sort-law (condition l) (condition-law l) k h
 
-  quiet-reads : {P : Part} {t : Stop} {end at : ℕ} {r : Res} → Reads s P (λ _. 1) 0 255 t end at r → Reads s P (λ _. 0) 0 0 t end at (quiet r)
+  quiet-reads : {P : Part} {t : Stop} {end at : ℕ} {r : Res} → Reads site s P (λ _. 1) 0 255 t end at r → Reads site s P (λ _. 0) 0 0 t end at (quiet r)
   quiet-reads (refuses p o) = refuses p o
   quiet-reads (takes {rs = rs} {n = n} f) = takes {rs = rs} {ms = []} {n = n} (record { it = f .it; meets = f .meets; low = f .low; high = f .high; bytes = f .bytes; book = f .book; counted = refl; marks = tt; room = le-refl 0; closes = f .closes })
 
-  pub plain-condition : (l : ℕ) → Plain s (λ end at. quiet (condition l .read s 0 end at)) (one (condition l .item)) condLook
+  pub plain-condition : (l : ℕ) → Plain site s (λ end at. quiet (condition l .read s 0 end at)) (one (condition l .item)) condLook
   plain-condition l =
       let f = condition-law l 0 (omega arith) in
       record {

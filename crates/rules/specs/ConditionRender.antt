@@ -1,5 +1,5 @@
 -- Conditions: their records give their bytes, and tell their data.
-use Prim.Native.Nat.{ℕ, zero, suc, _+_, _*_, _≤_}
+use Prim.Native.Nat.{ℕ, zero, suc, _+_, _-_, _*_, _≤_}
 use mathlib.Core.List.{List, [], _∷_, _++_}
 use mathlib.Core.Bool.{Bool, true, false, _||_}
 use mathlib.Core.Path.{_≡_, refl, sym, ap, _∙_}
@@ -13,11 +13,11 @@ use Rattle.rules.specs.Reading.{Rec, rec, count}
 use Rattle.rules.specs.Tables.{tagOf, kindOf, sortBy}
 use Rattle.rules.specs.Looks.{Look, look}
 use Rattle.rules.specs.Rendering.{gives, Renderer, nothing, within, from, rTimes}
-use Rattle.rules.specs.Grammar.{low, Part, empty, one, tagged, with, behind, many}
+use Rattle.rules.specs.Grammar.{Where, into, _on_, _later_, low, elementBytes, Part, empty, one, tagged, with, behind, many}
 use Rattle.rules.specs.ElementLaws.{LowTag, low-tag, wrap-is, element-long}
 use Rattle.rules.specs.ValueLaws.{count-le16}
 use Rattle.rules.specs.LookLaws.{pay-first, fresh-any, Begins, none, some, size, Laid, begins-one, subset, begins-subset}
-use Rattle.rules.specs.RenderLaws.{Renders, many-renders, times-renders, sealed-renders}
+use Rattle.rules.specs.RenderLaws.{Renders, later-on, many-renders, times-renders, sealed-renders}
 use Rattle.rules.specs.Bytewise.{AllB, Outs, out, wrap-b, within-b, from-b, times-b, nothing-b}
 use Rattle.rules.specs.Kinds.{Only, there, none-there, many-only}
 use Rattle.rules.specs.Conditions.{Several, Condition, isOther, sorts, bySort, condition}
@@ -35,17 +35,20 @@ or-none false t = t
 
 -- an element whose record stands in front: that record's payload says how what is inside is rendered
 front-renders : (t kind : ℕ) → LowTag t → T (ltb kind 65536) → (P : Part) (pay : P .Of → List ℕ) (q : List ℕ → Renderer) →
-    ((y : P .Of) → P .Meets y → (w : List Rec) → q (pay y) (P .book y ++ w) ≡ gives (P .bytes y) w) → ((y : P .Of) → length (pay y) ≤ 4) →
-    ((y : P .Of) → P .Meets y → size (P .book y) ≤ 4 * length (P .bytes y)) → ((y : P .Of) → P .Meets y → (n : ℕ) → length (P .bytes y) ≤ n → Laid n (P .book y)) →
-    ((x y : P .Of) → P .Meets x → P .Meets y → P .book x ≡ P .book y → x ≡ y) →
+    ((v : Where) (y : P .Of) → P .Meets y → (w : List Rec) → q (pay y) (P .book v y ++ w) ≡ gives (P .bytes y) w) → ((y : P .Of) → length (pay y) ≤ 4) →
+    ((v : Where) (y : P .Of) → P .Meets y → size (P .book v y) ≤ 4 * length (P .bytes y)) → ((v : Where) (y : P .Of) → P .Meets y → (n : ℕ) → length (P .bytes y) ≤ n → Laid n (P .book v y)) →
+    ((u v : Where) (x y : P .Of) → P .Meets x → P .Meets y → P .book u x ≡ P .book v y → x ≡ y) → ((v : Where) (n : ℕ) (x : P .Of) → P .book (v later n) x ≡ P .book v x) →
     Renders (one (tagged t (behind P (λ y. rec kind (pay y))))) (from (λ k p. within t (q p))) (look (kind ∷ []) false [] 0)
-front-renders t kind z tk P pay q f short b l u = record {
-  renders = λ y m w _. rw (f y m w, wrap-is t (P .bytes y) z) refl;
-  begins = λ y m. begins-one kind (pay y) (P .book y) false;
-  bound = λ y m. omega (arith, short y, b y m, element-long (low t (P .bytes y)));
-  laid = λ y m n h. (tk, omega (arith, short y), l y m n (omega (arith, element-long (low t (P .bytes y)))));
-  tells = λ x y m n e. u x y m n (ap (drop 1) e);
-}
+front-renders t kind z tk P pay q f short b l u g =
+    let i : Where → P .Of → Where = λ v y. into v (low t (P .bytes y)) in
+    record {
+      renders = λ v y m w _. rw (f (i v y) y m w, wrap-is t (P .bytes y) z) refl;
+      begins = λ v y m. begins-one kind (pay y) (P .book (i v y) y) false;
+      bound = λ v y m. omega (arith, short y, b (i v y) y m, element-long (low t (P .bytes y)));
+      laid = λ v y m n h. (tk, omega (arith, short y), l (i v y) y m n (omega (arith, element-long (low t (P .bytes y)))));
+      tells = λ v w x y m n e. u (i v x) (i w y) x y m n (ap (drop 1) e);
+      moved = λ v n x. let k = length (elementBytes (low t (P .bytes x))) - length (P .bytes x) in rw (later-on v n k, g (v on k) n x) refl;
+    }
 
 module _ (c : Condition) (r : Renders (one (c .item)) (c .render) kindsLook) where
   several-renders : (x : Sort) → LowTag (tagOf x) → T (ltb (kindOf x) 65536) →
@@ -54,18 +57,19 @@ module _ (c : Condition) (r : Renders (one (c .item)) (c .render) kindsLook) whe
       let P = with (many (one (c .item))) Several in
       let f = many-renders {P = one (c .item)} tt r in
       front-renders (tagOf x) (kindOf x) z t P (λ y. le16 (length y)) (λ p. rTimes (count p) (λ rs. c .render rs))
-      (λ y m w. rw (count-le16 (length y) (omega (arith, m .1 .1))) (times-renders {P = one (c .item)} tt r y (m .0) w (fresh-any w))) (λ y. omega arith) (λ y m. omega (arith, f .bound y (m .0))) (λ y m. f .laid y (m .0)) (λ x y m n. f .tells x y (m .0) (n .0))
+      (λ v y m w. rw (count-le16 (length y) (omega (arith, m .1 .1))) (times-renders {P = one (c .item)} tt r v y (m .0) w (fresh-any w))) (λ y. omega arith) (λ v y m. omega (arith, f .bound v y (m .0))) (λ v y m. f .laid v y (m .0)) (λ u v x y m n. f .tells u v x y (m .0) (n .0)) (f .moved)
 
   sort-renders : (x : Sort) → Renders (one (sorts c x .item)) (from (λ k p. sorts c x .render p)) (sortLook x)
-  sort-renders Always = front-renders (tagOf Always) (kindOf Always) (low-tag 0x05 tt) tt empty (λ _. []) (λ _. nothing) (λ y m w. refl) (λ y. omega arith) (λ y m. omega arith) (λ y m n h. tt) (λ x y m n e. refl)
+  sort-renders Always = front-renders (tagOf Always) (kindOf Always) (low-tag 0x05 tt) tt empty (λ _. []) (λ _. nothing) (λ v y m w. refl) (λ y. omega arith) (λ v y m. omega arith) (λ v y m n h. tt) (λ u v x y m n e. refl) (λ v n x. refl)
   sort-renders Identifier = record {
-    renders = λ y m w _. rw (wrap-is (tagOf Identifier) y (low-tag 0x04 tt)) refl;
-    begins = λ y m. begins-one (kindOf Identifier) y [] false;
-    bound = λ y m. omega (arith, element-long (low (tagOf Identifier) y));
-    laid = λ y m n h. (tt, omega (arith, element-long (low (tagOf Identifier) y)), tt);
-    tells = λ x y m n e. ap pay-first e;
+    renders = λ v y m w _. rw (wrap-is (tagOf Identifier) y (low-tag 0x04 tt)) refl;
+    begins = λ v y m. begins-one (kindOf Identifier) y [] false;
+    bound = λ v y m. omega (arith, element-long (low (tagOf Identifier) y));
+    laid = λ v y m n h. (tt, omega (arith, element-long (low (tagOf Identifier) y)), tt);
+    tells = λ u v x y m n e. ap pay-first e;
+    moved = λ v n y. refl;
   }
-  sort-renders Not = front-renders (tagOf Not) (kindOf Not) (low-tag 0xa0 tt) tt (one (c .item)) (λ _. []) (λ _ rs. c .render rs) (λ y m w. r .renders y m w (fresh-any w)) (λ y. omega arith) (λ y m. omega (arith, r .bound y m)) (λ y m. r .laid y m) (λ x y m n e. r .tells x y m n e)
+  sort-renders Not = front-renders (tagOf Not) (kindOf Not) (low-tag 0xa0 tt) tt (one (c .item)) (λ _. []) (λ _ rs. c .render rs) (λ v y m w. r .renders v y m w (fresh-any w)) (λ y. omega arith) (λ v y m. omega (arith, r .bound v y m)) (λ v y m. r .laid v y m) (λ u v x y m n e. r .tells u v x y m n e) (r .moved)
   sort-renders And = several-renders And (low-tag 0xa1 tt) tt
   sort-renders Or = several-renders Or (low-tag 0xa2 tt) tt
   sort-renders Other = sealed-renders (λ t. isOther (sortBy tagOf t)) (kindOf Other) tt
@@ -91,8 +95,8 @@ module _ (c : Condition) (r : Renders (one (c .item)) (c .render) kindsLook) whe
       let v : r .kind ≡ kindOf y = eqb→eq (r .kind) (kindOf y) (or-none (eqb (r .kind) (kindOf y)) n) in
       sym (by-kind x) ∙ ap (sortBy kindOf) (sym u ∙ v) ∙ by-kind y
 
-  sort-tells : (x y : Sort) → x ≡ y → (i : sorts c x .item .Of) (j : sorts c y .item .Of) → sorts c x .item .Meets i → sorts c y .item .Meets j → sorts c x .item .book i ≡ sorts c y .item .book j → _≡_ {A = bySort (sorts c) .item .Of} (x, i) (y, j)
-  sort-tells x y e = rw e (λ i j m n q. ap {B = bySort (sorts c) .item .Of} (λ k. (y, k)) (sort-renders y .tells i j m n q))
+  sort-tells : (x y : Sort) → x ≡ y → (i : sorts c x .item .Of) (j : sorts c y .item .Of) → sorts c x .item .Meets i → sorts c y .item .Meets j → (u v : Where) → sorts c x .item .book u i ≡ sorts c y .item .book v j → _≡_ {A = bySort (sorts c) .item .Of} (x, i) (y, j)
+  sort-tells x y e = rw e (λ i j m n u v q. ap {B = bySort (sorts c) .item .Of} (λ k. (y, k)) (sort-renders y .tells u v i j m n q))
 
   kind-there : (x : Sort) → T (subset (kindOf x ∷ []) (kindsLook .first))
   kind-there Always = tt
@@ -104,16 +108,17 @@ module _ (c : Condition) (r : Renders (one (c .item)) (c .render) kindsLook) whe
 
   by-sort-renders : Renders (one (bySort (sorts c) .item)) (bySort (sorts c) .render) kindsLook
   by-sort-renders = record {
-    renders = λ i m w h. first-kind (i .0) (sort-renders (i .0) .begins (i .1) m) w ∙ sort-renders (i .0) .renders (i .1) m w (fresh-any w);
-    begins = λ i m. begins-subset (kindOf (i .0) ∷ []) (kindsLook .first) false false (kind-there (i .0)) tt (sort-renders (i .0) .begins (i .1) m);
-    bound = λ i m. sort-renders (i .0) .bound (i .1) m;
-    laid = λ i m. sort-renders (i .0) .laid (i .1) m;
-    tells = λ i j m n e. sort-tells (i .0) (j .0) (same-sort (i .0) (j .0) (sort-renders (i .0) .begins (i .1) m) (rw e (sort-renders (j .0) .begins (j .1) n))) (i .1) (j .1) m n e;
+    renders = λ v i m w h. first-kind (i .0) (sort-renders (i .0) .begins v (i .1) m) w ∙ sort-renders (i .0) .renders v (i .1) m w (fresh-any w);
+    begins = λ v i m. begins-subset (kindOf (i .0) ∷ []) (kindsLook .first) false false (kind-there (i .0)) tt (sort-renders (i .0) .begins v (i .1) m);
+    bound = λ v i m. sort-renders (i .0) .bound v (i .1) m;
+    laid = λ v i m. sort-renders (i .0) .laid v (i .1) m;
+    tells = λ u v i j m n e. sort-tells (i .0) (j .0) (same-sort (i .0) (j .0) (sort-renders (i .0) .begins u (i .1) m) (rw e (sort-renders (j .0) .begins v (j .1) n))) (i .1) (j .1) m n u v e;
+    moved = λ v n i. sort-renders (i .0) .moved v n (i .1);
   }
 
 pub condition-renders : (l : ℕ) → Renders (one (condition l .item)) (condition l .render) kindsLook
 unfolding condition
-condition-renders zero = record { renders = λ x. absurd x; begins = λ x. absurd x; bound = λ x. absurd x; laid = λ x. absurd x; tells = λ x. absurd x }
+condition-renders zero = record { renders = λ v x. absurd x; begins = λ v x. absurd x; bound = λ v x. absurd x; laid = λ v x. absurd x; tells = λ u v x. absurd x; moved = λ v n x. absurd x }
 condition-renders (suc l) = by-sort-renders (condition l) (condition-renders l)
 
 -- whatever the records, what is rendered of them is bytes
@@ -134,10 +139,10 @@ condition-clean (suc l) = from-b (λ k p a. sort-clean (condition l) (condition-
 -- its records are of these kinds
 pub condition-only : (l : ℕ) → Only (one (condition l .item)) (kindsLook .first)
 unfolding condition
-condition-only zero x = absurd x
-condition-only (suc l) (Always, x) = there tt none-there
-condition-only (suc l) (Identifier, x) = there tt none-there
-condition-only (suc l) (Not, x) = there tt (condition-only l x)
-condition-only (suc l) (And, x) = there tt (many-only (one (condition l .item)) (condition-only l) x)
-condition-only (suc l) (Or, x) = there tt (many-only (one (condition l .item)) (condition-only l) x)
-condition-only (suc l) (Other, x) = there tt none-there
+condition-only zero v x = absurd x
+condition-only (suc l) v (Always, x) = there tt none-there
+condition-only (suc l) v (Identifier, x) = there tt none-there
+condition-only (suc l) v (Not, x) = there tt (condition-only l _ x)
+condition-only (suc l) v (And, x) = there tt (many-only (one (condition l .item)) (condition-only l) _ x)
+condition-only (suc l) v (Or, x) = there tt (many-only (one (condition l .item)) (condition-only l) _ x)
+condition-only (suc l) v (Other, x) = there tt none-there

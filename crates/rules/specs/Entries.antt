@@ -13,11 +13,11 @@ use Rattle.rules.specs.declared.table.Need.the-variants.{Required}
 use Rattle.rules.specs.Reading.{Rec, rec, took, fails, also, _then_, Body}
 use Rattle.rules.specs.Parts.{component, ended, element, sealed}
 use Rattle.rules.specs.Rendering.{gives, Renderer, within, from}
-use Rattle.rules.specs.Grammar.{Item, _or_, one, tagged, behind, sealedOne, choice, raw}
+use Rattle.rules.specs.Grammar.{Site, Item, _or_, one, tagged, behind, sealedOne, choice, raw}
 use Rattle.rules.specs.Layouts.{contents}
 use Rattle.rules.specs.Counted.{Counted, numbered, listed}
 
--- "Object: tag 30 or A0 to A7 .. Book 0120: entry tag, object tag", "At most 128 objects (house)"
+-- "Object: tag 30 or A0 to A7 .. Book 0120: entry tag, object tag", "a 2-byte file number .. and a 2-byte offset", "At most 128 objects (house)"
 abbrev pub objectTag : ℕ → Bool
 objectTag t = eqb t 0x30 || (leb 0xa0 t && leb t 0xa7)
 
@@ -28,7 +28,7 @@ object = numbered 128 ManyObjects 0x0120 objectTag contents
 pub record Form : Type 1 where
   pub item : Item
   pub inside : item .Of → ℕ
-  pub body : List ℕ → ℕ → Body
+  pub body : Site → List ℕ → ℕ → Body
   pub render : List ℕ → Renderer
 
 -- "An EF.OD path holds one OCTET STRING of 1 to 64 bytes and nothing more (house)"
@@ -44,7 +44,7 @@ abbrev pub named : ℕ → Form
 named t = record {
   item = tagged 0x30 (one (tagged 0x04 (raw (λ c. rec 0x0110 (t ∷ 0 ∷ c)) PathSize)));
   inside = λ _. 0;
-  body = λ s k at a e. (component s 0x04 Required (namedPath s t) then ended s) e a;
+  body = λ site s k at a e. (component s 0x04 Required (namedPath s t) then ended s) e a;
   render = λ p rs. gives (wrap 0x30 (wrap 0x04 (drop 2 p))) rs;
 }
 
@@ -53,7 +53,7 @@ abbrev pub holding : ℕ → Form
 holding t = record {
   item = tagged 0xa0 (behind (listed (object t) .part) (λ _. rec 0x0110 (t ∷ 1 ∷ [])));
   inside = listed (object t) .count;
-  body = λ s k at a e. also (rec 0x0110 (t ∷ 1 ∷ []) ∷ []) [] (listed (object t) .read s k e a);
+  body = λ site s k at a e. also (rec 0x0110 (t ∷ 1 ∷ []) ∷ []) [] (listed (object t) .read site s k e a);
   render = λ p. within 0xa0 (listed (object 0) .render);
 }
 
@@ -69,7 +69,7 @@ abbrev pub other : ℕ → Form
 other t = record {
   item = sealedOne (λ t. not (knownTag t) && contextTag t) 0x0110 (λ t. t ∷ 2 ∷ []);
   inside = λ _. 0;
-  body = λ s k at a e. sealed s 0x0110 (t ∷ 2 ∷ []) t at a e;
+  body = λ site s k at a e. sealed s 0x0110 (t ∷ 2 ∷ []) t at a e;
   render = λ p rs. gives (drop 2 p) rs;
 }
 
@@ -91,17 +91,17 @@ abbrev pub inEntry : item .Of → ℕ
 inEntry (inl (t, x)) = inKnown t x
 inEntry (inr x) = 0
 
-module _ (s : List ℕ) where
+module _ (site : Site) (s : List ℕ) where
   unfoldable pub entryInside : ℕ → ℕ → ℕ → Body
   entryInside entry k t at a e =
-      choose (eqb t 0x30) (λ _. named entry .body s k at a e)
-      (λ _. choose (eqb t 0xa0) (λ _. holding entry .body s k at a e)
+      choose (eqb t 0x30) (λ _. named entry .body site s k at a e)
+      (λ _. choose (eqb t 0xa0) (λ _. holding entry .body site s k at a e)
       (λ _. fails NotDue at))
 
   unfoldable pub entryBody : ℕ → ℕ → Body
   entryBody k t at a e =
       choose (knownTag t) (λ _. (element s (entryInside t k) then ended s) e a)
-      (λ _. choose (contextTag t) (λ _. other t .body s k at a e)
+      (λ _. choose (contextTag t) (λ _. other t .body site s k at a e)
       (λ _. fails NotDue at))
 
 unfoldable pub rInside : Renderer

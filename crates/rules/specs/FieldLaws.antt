@@ -30,7 +30,7 @@ use Rattle.rules.specs.Parts.{Val, good, wrong, isDefault, inBounds, siz
 use Rattle.rules.specs.ValueLaws.{bytes-slice}
 use Rattle.rules.specs.FaultLaws.{ofReading, value-fault}
 use Rattle.rules.specs.TestLaws.{and-left, and-right}
-use Rattle.rules.specs.Grammar.{payOf, NotDefault, Within, Fine, field, fields}
+use Rattle.rules.specs.Grammar.{Site, payOf, NotDefault, Within, Fine, field, fields}
 use Rattle.rules.specs.BoundLaws.{bounds, within-bounds, signed-is, boundsFit, within-fits, abs-small, signed-small}
 use Rattle.rules.specs.GrammarLaws.{tags, close, Look, look, Reads, refuses, Plain, PlainBody, clear, seqLook, seq, none-law, lowTag, low-tag, slotLook, whole-reads, whole-goes, component-law}
 
@@ -109,16 +109,16 @@ abbrev pub rowsClear : List Row → Bool
 rowsClear [] = true
 rowsClear (r ∷ rs) = (lowTag (r .tag) && boundsFit r) && (clear (rowsLook rs .first) (slotLook (r .need) (r .tag) .stop) && rowsClear rs)
 
-module _ (s : List ℕ) (bytes : Bytes s) (small : length s ≤ 32768) where
-  valued-reads : (r : Row) (at a e : ℕ) → at ≤ length s → a ≤ e → {v : Val} → Judged (r .form) r (slice a e s) v → Reads s (field r) (λ _. 0) 0 0 close e a (valued r at e v)
+module _ (site : Site) (s : List ℕ) (bytes : Bytes s) (small : length s ≤ 32768) where
+  valued-reads : (r : Row) (at a e : ℕ) → at ≤ length s → a ≤ e → {v : Val} → Judged (r .form) r (slice a e s) v → Reads site s (field r) (λ _. 0) 0 0 close e a (valued r at e v)
   valued-reads r at a e o h (bad t) = refuses at (o, t)
   valued-reads r at a e o h (fine {p = p} v w q z) = whole-reads (field r) (rec (r .kind) p ∷ []) v w h q (rw z refl)
 
-  row-sound : (r : Row) → T (boundsFit r) → (at a e : ℕ) → at ≤ a → a ≤ e → e ≤ length s → Reads s (field r) (λ _. 0) 0 0 close e a (rowBody s r at a e)
+  row-sound : (r : Row) → T (boundsFit r) → (at a e : ℕ) → at ≤ a → a ≤ e → e ≤ length s → Reads site s (field r) (λ _. 0) 0 0 close e a (rowBody s r at a e)
   unfolding rowBody
   row-sound r m at a e i h l = go (value (r .form) (slice a e s)) refl
     where
-      go : (v : Value) → value (r .form) (slice a e s) ≡ v → Reads s (field r) (λ _. 0) 0 0 close e a (valued r at e (judged r (slice a e s) v))
+      go : (v : Value) → value (r .form) (slice a e s) ≡ v → Reads site s (field r) (λ _. 0) 0 0 close e a (valued r at e (judged r (slice a e s) v))
       go (Wrong f) q = refuses at (omega arith, value-fault (r .form) (slice a e s) q)
       go (Of n x) q = valued-reads r at a e (omega arith) h (judges (r .form) r (slice a e s) n x m (value-sound (r .form) (slice a e s) (bytes-slice a e s bytes) q))
 
@@ -126,18 +126,18 @@ module _ (s : List ℕ) (bytes : Bytes s) (small : length s ≤ 32768) where
   unfolding rowBody
   row-complete r m at a e h v w q = rw (q, value-complete (r .form) (contentsOf (r .form) v) (encoding (r .form) r m v w), pays (r .form) r v w) refl
 
-  row-law : (r : Row) → T (boundsFit r) → PlainBody s (rowBody s r) (field r)
+  row-law : (r : Row) → T (boundsFit r) → PlainBody site s (rowBody s r) (field r)
   row-law r m = record {
     sound = row-sound r m;
     complete = λ at a e _ h l v w _ q. whole-goes h (row-complete r m at a e h v w q);
   }
 
-  pub fields-law : (rs : List Row) → T (rowsClear rs) → Plain s (components s rs) (fields rs) (rowsLook rs)
+  pub fields-law : (rs : List Row) → T (rowsClear rs) → Plain site s (components s rs) (fields rs) (rowsLook rs)
   unfolding components
-  fields-law [] t = none-law s
+  fields-law [] t = none-law site s
   fields-law (r ∷ rs) t =
       let a = and-left (lowTag (r .tag) && boundsFit r) (clear (rowsLook rs .first) (slotLook (r .need) (r .tag) .stop) && rowsClear rs) t in
       let b = and-right (lowTag (r .tag) && boundsFit r) (clear (rowsLook rs .first) (slotLook (r .need) (r .tag) .stop) && rowsClear rs) t in
-      seq (component-law s bytes small (r .tag) (low-tag (r .tag) (and-left (lowTag (r .tag)) (boundsFit r) a)) (row-law r (and-right (lowTag (r .tag)) (boundsFit r) a)) (r .need))
+      seq (component-law site s bytes small (r .tag) (low-tag (r .tag) (and-left (lowTag (r .tag)) (boundsFit r) a)) (row-law r (and-right (lowTag (r .tag)) (boundsFit r) a)) (r .need))
       (fields-law rs (and-right (clear (rowsLook rs .first) (slotLook (r .need) (r .tag) .stop)) (rowsClear rs) b))
       (and-left (clear (rowsLook rs .first) (slotLook (r .need) (r .tag) .stop)) (rowsClear rs) b)

@@ -33,7 +33,7 @@ entry = record {
   most = 128;
   part = one item;
   count = inEntry;
-  read = λ s k. element s (entryBody s k);
+  read = λ site s k. element s (entryBody site s k);
   render = rEntry;
   kinds = entryLook;
   tags = exact.look contextTag false (tags []);
@@ -72,7 +72,7 @@ dirEntry = record {
   most = 0;
   part = one dirItem;
   count = λ _. 0;
-  read = λ s k. element s (dirBody s);
+  read = λ site s k. element s (dirBody s);
   render = either (template .kinds .first) (within 0x61 (template .render)) plain;
   kinds = joinLook (elemLook (template .kinds)) (plainLook 0x0211);
   tags = exact.look dirTag false (tags []);
@@ -89,8 +89,8 @@ abbrev pub dirKinds : List ℕ
 dirKinds = (0x0200 ∷ []) ++ ((template .all ++ 0x0211 ∷ []) ++ 0x0212 ∷ [])
 
 pub dir-only : Only (dir .part) dirKinds
-dir-only x = there tt (late (0x0200 ∷ []) ((template .all ++ 0x0211 ∷ []) ++ 0x0212 ∷ [])
-    (and-only (many (one dirItem)) (grammar.fill 0x0212) (many-only (one dirItem) (or-only (grammar.tagged 0x61 (template .part)) (grammar.sealedOne otherTag 0x0211 noFront) (template .only) (sealed-only 0x0211 otherTag noFront))) (fill-only 0x0212) x))
+dir-only v x = there tt (late (0x0200 ∷ []) ((template .all ++ 0x0211 ∷ []) ++ 0x0212 ∷ [])
+    (and-only (many (one dirItem)) (grammar.fill 0x0212) (many-only (one dirItem) (or-only (grammar.tagged 0x61 (template .part)) (grammar.sealedOne otherTag 0x0211 noFront) (λ v x. template .only _ x) (sealed-only 0x0211 otherTag noFront))) (fill-only 0x0212) v x))
 
 -- fill does not begin as they do
 context-real : (t : ℕ) → contextTag t ≡ true → (t ≡ 0 → ⊥) × (t ≡ 0xff → ⊥)

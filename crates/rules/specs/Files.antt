@@ -18,6 +18,7 @@ use Rattle.rules.specs.Tables.{ownIdRow}
 pub use Rattle.rules.specs.Fills.{toFill, beforeFill, onlyFill}
 unfoldable pub use Rattle.rules.specs.Fills.{filled, fill}
 unfoldable pub use Rattle.rules.specs.Entries.{namedPath, entryInside, entryBody}
+use Rattle.rules.specs.Grammar.{Site, siteOf}
 use Rattle.rules.specs.FileLayouts as filing
 use Rattle.rules.specs.Layout.{bodyOf}
 use Rattle.rules.specs.Layouts as layouts
@@ -79,19 +80,20 @@ module _ (s : List ℕ) where
   abbrev pub cia : Reader
   cia = layouts.cia .read s 0
 
-  -- EF.OD; after k objects, a transparent file and a record of a record file
+  -- EF.OD, "0 for EF.OD"
   unfoldable pub od : Reader
-  od = filing.od .read s 0
+  od end at = filing.od .read (siteOf 0 at) s 0 end at
 
-  unfoldable pub directory : ℕ → ℕ → Reader
-  directory entry k = filing.directory entry .read s k
+  -- after k objects: a transparent file, the nth, and a record of a record file
+  unfoldable pub directory : ℕ → ℕ → ℕ → Reader
+  directory n entry k end at = filing.directory entry .read (siteOf n at) s k end at
 
-  unfoldable pub recordIn : ℕ → ℕ → Reader
-  recordIn entry k = filing.recordIn entry .read s k
+  unfoldable pub recordIn : Site → ℕ → ℕ → Reader
+  recordIn site entry k = filing.recordIn entry .read site s k
 
-  -- EF.DIR
+  -- EF.DIR, which "takes no number"
   unfoldable pub dir : Reader
-  dir = filing.dir .read s 0
+  dir = filing.dir .read (siteOf 0 0) s 0
 
   abbrev pub two : ℕ → ℕ
   two at = getD s at 0 + 256 * getD s (at + 1) 0
@@ -106,8 +108,8 @@ module _ (s : List ℕ) where
   fits (suc g) stop at = choose (ltb at stop) (λ _. fits g stop (recordEnd at)) (λ _. eqb at stop)
 
   -- "The book opens such a file with 0119": its records in turn, after k objects
-  unfoldable pub linear : ℕ → ℕ → Reader
-  linear entry k end at = also (rec 0x0119 [] ∷ []) [] (repeat toEnd (λ j _ i. recordIn entry j (recordEnd i) (i + 2)) (end - at) k end at)
+  unfoldable pub linear : ℕ → ℕ → ℕ → Reader
+  linear n entry k end at = also (rec 0x0119 [] ∷ []) [] (repeat toEnd (λ j _ i. recordIn (siteOf n at) entry j (recordEnd i) (i + 2)) (end - at) k end at)
 
   -- the record at a place, of one of the kinds that are due, whole; `inner` takes its kind and what stands in it
   unfoldable pub frameOf : ℕ → ℕ → (ℕ → ℕ → ℕ → FrameRead) → ℕ → FrameRead
@@ -194,15 +196,15 @@ module _ (s : List ℕ) where
   follow (n ∷ ns) [] = wrongAt FileMissing (length s)
   follow (n ∷ ns) (f ∷ fs) = choose (equal (n .path) (pathOf f)) (λ _. follow ns fs) (λ _. wrongAt FileDiffers (f .place))
 
-  -- a file after k objects, transparent or of records
-  unfoldable pub fileOf : ℕ → ℕ → File → Res
-  fileOf entry k f = choose (eqb (f .kind) 3) (λ _. directory entry k (f .stop) (f .start)) (λ _. linear entry k (f .stop) (f .start))
+  -- the nth file after k objects, transparent or of records
+  unfoldable pub fileOf : ℕ → ℕ → ℕ → File → Res
+  fileOf n entry k f = choose (eqb (f .kind) 3) (λ _. directory n entry k (f .stop) (f .start)) (λ _. linear n entry k (f .stop) (f .start))
 
-  -- the files in turn, after k objects
-  unfoldable pub directories : List Name → List File → ℕ → Res
-  directories [] fs k = took [] [] 0
-  directories (n ∷ ns) [] k = took [] [] 0
-  directories (n ∷ ns) (f ∷ fs) k = counted (fileOf (n .tag) k f) (λ c _. directories ns fs (k + c))
+  -- the files in turn, "1 upward in dump order", after k objects
+  unfoldable pub directories : List Name → List File → ℕ → ℕ → Res
+  directories [] fs n k = took [] [] 0
+  directories (m ∷ ms) [] n k = took [] [] 0
+  directories (m ∷ ms) (f ∷ fs) n k = counted (fileOf n (m .tag) k f) (λ c _. directories ms fs (n + 1) (k + c))
 
 -- one of these is equal to it
 abbrev pub met : List ℕ → List (List ℕ) → Bool
@@ -256,7 +258,7 @@ module _ (s : List ℕ) where
       choose (ltb (firstAgain [] (paths (namesOf cs))) (length (paths (namesOf cs))))
       (λ _. refused PathTwice (entryPlace s (length s) (firstAgain [] (paths (namesOf cs))) (o .stop) (o .start)))
       (λ _. onCheck (follow s (namesOf cs) fs) (λ _.
-      onRes (directories s (namesOf cs) fs (length ms)) (λ ds ns.
+      onRes (directories s (namesOf cs) fs 1 (length ms)) (λ ds ns.
       onCheck (repeated [] 0 (ms ++ ns) (cs ++ ds)) (λ _. accepted (bs ++ (cs ++ ds))))))
 
   unfoldable pub readParts : File → File → List File → Answer

@@ -1,5 +1,5 @@
 -- What a part of a card is, said without reading it: its contents as data, the bytes and the records of the book that they stand as, and what they must meet.
-use Prim.Native.Nat.{ℕ, suc, _+_, _*_, _/_, _%_, _≤_, _<_}
+use Prim.Native.Nat.{ℕ, suc, _+_, _-_, _*_, _/_, _%_, _≤_, _<_}
 use mathlib.Core.Path.{_≡_}
 use mathlib.Core.List.{List, [], _∷_, _++_}
 use mathlib.Core.Bool.{Bool, true, false}
@@ -16,6 +16,7 @@ use Rattle.elements.specs.Length.{shortest, tagBytes}
 use Rattle.elements.specs.Sealed.{among, constructed}
 use Rattle.elements.specs.Encodings.{utf8s, Worth, Proper, contentsOf, tells}
 use Rattle.elements.specs.Put.{le16, le32}
+pub use Rattle.rules.specs.declared.site.Site.{Site}
 use Rattle.rules.specs.declared.table.Need.{Need}
 use Rattle.rules.specs.declared.table.Need.the-variants.{Required, Optional, Default}
 use Rattle.rules.specs.declared.table.Row.{Row}
@@ -58,27 +59,60 @@ abbrev pub SealedIn : Bool → List ℕ → Type 0
 SealedIn true c = SealedRun 15 [] c
 SealedIn false c = Unit {0}
 
+-- where something stands: in such a file, at a place of the dump
+pub record Where : Type 0 where
+  pub file : Site
+  pub at : ℕ
+
+-- a file, by its number and the place where it starts
+abbrev pub siteOf : ℕ → ℕ → Site
+siteOf n p = record { number = n; start = p }
+
+abbrev pub here : Site → ℕ → Where
+here f n = record { file = f; at = n }
+
+-- where file n starts
+abbrev pub opening : ℕ → ℕ → Where
+opening n p = here (siteOf n p) p
+
+-- at the first byte of a file that is looked at alone
+abbrev pub origin : Where
+origin = opening 0 0
+
+-- so many bytes further on
+abbrev pub _on_ : Where → ℕ → Where
+_on_ v n = here (v .file) (v .at + n)
+
+-- the same where the file starts so many bytes later
+abbrev pub _later_ : Where → ℕ → Where
+_later_ v n = here (siteOf (v .file .number) (n + v .file .start)) (n + v .at)
+
+-- where the contents of an element stand
+abbrev pub into : Where → Element → Where
+into v x = v on (length (elementBytes x) - length (x .contents))
+
 pub record Part : Type 1 where
   pub Of : Type 0
   pub bytes : Of → List ℕ
-  pub book : Of → List Rec
+  -- its records, where it stands there
+  pub book : Where → Of → List Rec
   pub Meets : Of → Type 0
 
 -- a part that is one element
 pub record Item : Type 1 where
   pub Of : Type 0
   pub shape : Of → Element
-  pub book : Of → List Rec
+  pub book : Where → Of → List Rec
   pub Meets : Of → Type 0
 
 abbrev pub empty : Part
-empty = record { Of = Unit {0}; bytes = λ _. []; book = λ _. []; Meets = λ _. Unit {0} }
+empty = record { Of = Unit {0}; bytes = λ _. []; book = λ _ _. []; Meets = λ _. Unit {0} }
 
 abbrev pub _and_ : Part → Part → Part
 _and_ P Q = record {
   Of = P .Of × Q .Of;
   bytes = λ x. P .bytes (x .0) ++ Q .bytes (x .1);
-  book = λ x. P .book (x .0) ++ Q .book (x .1);
+  book = λ v x. P .book v (x .0) ++ Q .book (v on length (P .bytes (x .0))) (x .1);
   Meets = λ x. P .Meets (x .0) × Q .Meets (x .1);
 }
 
@@ -86,7 +120,7 @@ abbrev pub _or_ : Item → Item → Item
 _or_ I J = record {
   Of = I .Of ⊎ J .Of;
   shape = λ x. elim x [ inl i ↦ I .shape i | inr j ↦ J .shape j ];
-  book = λ x. elim x [ inl i ↦ I .book i | inr j ↦ J .book j ];
+  book = λ v x. elim x [ inl i ↦ I .book v i | inr j ↦ J .book v j ];
   Meets = λ x. elim x [ inl i ↦ I .Meets i | inr j ↦ J .Meets j ];
 }
 
@@ -98,7 +132,7 @@ abbrev pub possibly : Part → Part
 possibly P = record {
   Of = Option (P .Of);
   bytes = λ x. elim x [ none ↦ [] | some y ↦ P .bytes y ];
-  book = λ x. elim x [ none ↦ [] | some y ↦ P .book y ];
+  book = λ v x. elim x [ none ↦ [] | some y ↦ P .book v y ];
   Meets = λ x. elim x [ none ↦ Unit {0} | some y ↦ P .Meets y ];
 }
 
@@ -111,7 +145,7 @@ slot Optional I = optional I
 slot (Default d) I = optional I
 
 abbrev pub tagged : ℕ → Part → Item
-tagged t P = record { Of = P .Of; shape = λ x. low t (P .bytes x); book = P .book; Meets = P .Meets }
+tagged t P = record { Of = P .Of; shape = λ x. low t (P .bytes x); book = λ v x. P .book (into v (low t (P .bytes x))) x; Meets = P .Meets }
 
 -- what is more to meet
 abbrev pub with : (P : Part) → (P .Of → Type 0) → Part
@@ -119,7 +153,7 @@ with P f = record { Of = P .Of; bytes = P .bytes; book = P .book; Meets = λ x. 
 
 -- a record in front
 abbrev pub behind : (P : Part) → (P .Of → Rec) → Part
-behind P f = record { Of = P .Of; bytes = P .bytes; book = λ x. f x ∷ P .book x; Meets = P .Meets }
+behind P f = record { Of = P .Of; bytes = P .bytes; book = λ v x. f x ∷ P .book v x; Meets = P .Meets }
 
 -- one after the other
 abbrev pub flat : {A B : Type 0} → (A → List B) → List A → List B
@@ -134,28 +168,33 @@ abbrev pub AllMeet : {A : Type 0} → (A → Type 0) → List A → Type 0
 AllMeet f [] = Unit {0}
 AllMeet f (x ∷ xs) = f x × AllMeet f xs
 
+-- the same of each where it stands, behind the bytes of those before it
+abbrev pub each : {A B : Type 0} → (A → List ℕ) → (Where → A → List B) → Where → List A → List B
+each b f v [] = []
+each b f v (x ∷ xs) = f v x ++ each b f (v on length (b x)) xs
+
 abbrev pub many : Part → Part
-many P = record { Of = List (P .Of); bytes = flat (P .bytes); book = flat (P .book); Meets = AllMeet (P .Meets) }
+many P = record { Of = List (P .Of); bytes = flat (P .bytes); book = each (P .bytes) (P .book); Meets = AllMeet (P .Meets) }
 
 -- one or the other
 abbrev pub oneOf : Part → Part → Part
 oneOf P Q = record {
   Of = P .Of ⊎ Q .Of;
   bytes = λ x. elim x [ inl y ↦ P .bytes y | inr y ↦ Q .bytes y ];
-  book = λ x. elim x [ inl y ↦ P .book y | inr y ↦ Q .book y ];
+  book = λ v x. elim x [ inl y ↦ P .book v y | inr y ↦ Q .book v y ];
   Meets = λ x. elim x [ inl y ↦ P .Meets y | inr y ↦ Q .Meets y ];
 }
 
 -- "a 2-byte length and its bytes"
 abbrev pub lengthed : Part → Part
-lengthed P = record { Of = P .Of; bytes = λ x. le16 (length (P .bytes x)) ++ P .bytes x; book = P .book; Meets = P .Meets }
+lengthed P = record { Of = P .Of; bytes = λ x. le16 (length (P .bytes x)) ++ P .bytes x; book = λ v. P .book (v on 2); Meets = P .Meets }
 
 -- a sealed element whose first tag byte is one of these, behind what stands in front of it in its record
 abbrev pub sealedOne : (ℕ → Bool) → ℕ → (ℕ → List ℕ) → Item
 sealedOne which kind front = record {
   Of = Element;
   shape = λ x. x;
-  book = λ x. rec kind (front (firstOf x) ++ elementBytes x) ∷ [];
+  book = λ v x. rec kind (front (firstOf x) ++ elementBytes x) ∷ [];
   Meets = λ x. IsElement x × SealedIn (constructed (firstOf x)) (x .contents) × (which (firstOf x) ≡ true);
 }
 
@@ -164,30 +203,39 @@ abbrev pub choice : (ℕ → Bool) → (ℕ → Part) → Item
 choice which P = record {
   Of = (t : ℕ) × P t .Of;
   shape = λ x. low (x .0) (P (x .0) .bytes (x .1));
-  book = λ x. P (x .0) .book (x .1);
+  book = λ v x. P (x .0) .book (into v (low (x .0) (P (x .0) .bytes (x .1)))) (x .1);
   Meets = λ x. (which (x .0) ≡ true) × P (x .0) .Meets (x .1);
 }
 
--- an element with one of these tags, behind a record that tells x and its tag
+-- "a 2-byte file number .. and a 2-byte offset of the object inside that file"
+abbrev pub numbers : Where → List ℕ
+numbers v = le16 (v .file .number) ++ le16 (v .at - v .file .start)
+
+-- an element with one of these tags, behind a record that tells x, its tag and where it stands
 abbrev pub numbered : ℕ → (ℕ → Bool) → ℕ → (ℕ → Part) → Item
-numbered kind which x P = choice which (λ t. behind (P t) (λ _. rec kind (x ∷ t ∷ [])))
+numbered kind which x P = record {
+  Of = choice which P .Of;
+  shape = choice which P .shape;
+  book = λ v i. rec kind (x ∷ i .0 ∷ numbers v) ∷ choice which P .book v i;
+  Meets = choice which P .Meets;
+}
 
 -- an element of one of several sorts
 abbrev pub bySort : (Sort → Item) → Item
 bySort I = record {
   Of = (x : Sort) × I x .Of;
   shape = λ i. I (i .0) .shape (i .1);
-  book = λ i. I (i .0) .book (i .1);
+  book = λ v i. I (i .0) .book v (i .1);
   Meets = λ i. I (i .0) .Meets (i .1);
 }
 
 -- none
 abbrev pub never : Item
-never = record { Of = ⊥; shape = λ x. absurd x; book = λ x. absurd x; Meets = λ x. ⊥ }
+never = record { Of = ⊥; shape = λ x. absurd x; book = λ v x. absurd x; Meets = λ x. ⊥ }
 
 -- bytes as they are, in a record of their own
 abbrev pub raw : (List ℕ → Rec) → (List ℕ → Type 0) → Part
-raw r f = record { Of = List ℕ; bytes = λ c. c; book = λ c. r c ∷ []; Meets = f }
+raw r f = record { Of = List ℕ; bytes = λ c. c; book = λ v c. r c ∷ []; Meets = f }
 
 -- what has no byte has no record
 abbrev pub unlessEmpty : ℕ → List ℕ → List Rec
@@ -196,7 +244,7 @@ unlessEmpty kind (x ∷ c) = rec kind (x ∷ c) ∷ []
 
 -- "Rest means sealed elements after the listed components; the tag of an optional or defaulted component of that sequence may not occur there."
 abbrev pub rest : ℕ → List ℕ → Part
-rest kind out = record { Of = List ℕ; bytes = λ c. c; book = unlessEmpty kind; Meets = SealedRun 16 out }
+rest kind out = record { Of = List ℕ; bytes = λ c. c; book = λ v. unlessEmpty kind; Meets = SealedRun 16 out }
 
 -- "Flags, integers and enumerations are numbers in the book; BOOLEANs one byte, 00 or 01"
 abbrev pub payOf : (f : Form) → Worth f → List ℕ
@@ -235,7 +283,7 @@ abbrev pub field : Row → Part
 field r = record {
   Of = Worth (r .form);
   bytes = contentsOf (r .form);
-  book = λ v. rec (r .kind) (payOf (r .form) v) ∷ [];
+  book = λ _ v. rec (r .kind) (payOf (r .form) v) ∷ [];
   Meets = Fine (r .form) r;
 }
 
@@ -249,9 +297,11 @@ abbrev pub fill : ℕ → Part
 fill kind = record {
   Of = Option (ℕ × ℕ);
   bytes = λ x. elim x [ none ↦ [] | some (b, n) ↦ replicate n b ];
-  book = λ x. elim x [ none ↦ [] | some (b, n) ↦ rec kind (b ∷ le16 n) ∷ [] ];
+  book = λ v x. elim x [ none ↦ [] | some (b, n) ↦ rec kind (b ∷ le16 n) ∷ [] ];
   Meets = λ x. elim x [ none ↦ Unit {0} | some (b, n) ↦ ((b ≡ 0) ⊎ (b ≡ 0xff)) × (1 ≤ n) × (n < 65536) ];
 }
 
 infixl 20 _and_
+infixl 20 _on_
+infixl 20 _later_
 infixr 18 _or_

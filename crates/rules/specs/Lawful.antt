@@ -30,7 +30,7 @@ use Rattle.rules.specs.Rulings.{headedBy}
 use Rattle.rules.specs.Rendering.{Renderer, _next_, within, when, either, from, plain, rRows, rKeep, rAll, rFill}
 use Rattle.rules.specs.Fills.{toFill, fill, beforeFill, onlyFill}
 use Rattle.rules.specs.Grammar as grammar
-use Rattle.rules.specs.Grammar.{firstOf, SealedRun, Part, Item, many, total}
+use Rattle.rules.specs.Grammar.{firstOf, SealedRun, Site, Where, here, Part, Item, many, total}
 use Rattle.rules.specs.ElementLaws.{run-sound, run-complete}
 use Rattle.rules.specs.FaultLaws.{ofReading, sealed-fault}
 use Rattle.rules.specs.LookLaws.{avoids, bodily, repeats, under}
@@ -45,25 +45,25 @@ use Rattle.rules.specs.Bytewise.{Outs, next-b, within-b, when-b, either-
 
 -- what holds of a layout's faces together
 pub record Lawful (part : Part) (read : List ℕ → ℕ → Reader) (render : Renderer) (kinds : Look) (tags : exact.Look) : Type 0 where
-  pub exact : (s : List ℕ) → Bytes s → length s ≤ 32768 → (own : ℕ) → own ≤ length s → Plain s (read s own) part tags
+  pub exact : (site : Site) (s : List ℕ) → Bytes s → length s ≤ 32768 → (own : ℕ) → own ≤ length s → Plain site s (read s own) part tags
   pub renders : Renders part render kinds
   pub clean : Outs render
 
 -- the same of one element, by its tag
 pub record LawfulOne (item : Item) (body : List ℕ → ℕ → Body) (render : Renderer) (kinds : Look) : Type 0 where
-  pub exact : (s : List ℕ) → Bytes s → length s ≤ 32768 → ItemLaw s (body s) item (λ _. 0) 0 0 Any
+  pub exact : (site : Site) (s : List ℕ) → Bytes s → length s ≤ 32768 → ItemLaw site s (body s) item (λ _. 0) 0 0 Any
   pub renders : Renders (grammar.one item) render kinds
   pub clean : Outs render
 
 -- the same of a part in which something is counted, `most` at most, k before it
-pub record LawfulCounted (most : ℕ) (part : Part) (count : part .Of → ℕ) (read : List ℕ → ℕ → Reader) (render : Renderer) (kinds : Look) (tags : exact.Look) : Type 0 where
-  pub exact : (s : List ℕ) → Bytes s → length s ≤ 32768 → (k : ℕ) → k ≤ most → exact.Law s (read s k) part count k most tags
+pub record LawfulCounted (most : ℕ) (part : Part) (count : part .Of → ℕ) (read : Site → List ℕ → ℕ → Reader) (render : Renderer) (kinds : Look) (tags : exact.Look) : Type 0 where
+  pub exact : (site : Site) (s : List ℕ) → Bytes s → length s ≤ 32768 → (k : ℕ) → k ≤ most → exact.Law site s (read site s k) part count k most tags
   pub renders : Renders part render kinds
   pub clean : Outs render
 
 -- the same of a file: it ends where the file ends, and need not begin with an element
-pub record LawfulFile (most : ℕ) (part : Part) (count : part .Of → ℕ) (read : List ℕ → ℕ → Reader) (render : Renderer) (kinds : Look) : Type 0 where
-  pub exact : (s : List ℕ) → Bytes s → length s ≤ 32768 → (k : ℕ) → k ≤ most → BodyLaw s (inside (read s k)) part count k most
+pub record LawfulFile (most : ℕ) (part : Part) (count : part .Of → ℕ) (read : Site → List ℕ → ℕ → Reader) (render : Renderer) (kinds : Look) : Type 0 where
+  pub exact : (site : Site) (s : List ℕ) → Bytes s → length s ≤ 32768 → (k : ℕ) → k ≤ most → BodyLaw site s (inside (read site s k)) part count k most
   pub renders : Renders part render kinds
   pub clean : Outs render
 
@@ -96,15 +96,15 @@ Solid f = (t : ℕ) → f t ≡ true → (t ≡ 0 → ⊥) × (t ≡ 0xff → �
 -- one after the other
 pub and-lawful : {P Q : Part} {p q : List ℕ → ℕ → Reader} {f g : Renderer} {L M : Look} {A B : exact.Look} → Lawful P p f L A → Lawful Q q g M B → T (avoids (M .first) (L .stop)) → T (clear (B .first) (A .stop)) →
     Lawful (grammar._and_ P Q) (λ s own. p s own then q s own) (f next g) (seqLook L M) (exact.seqLook A B)
-and-lawful x y t u = record { exact = λ s b m own o. exact.seq (x .exact s b m own o) (y .exact s b m own o) u; renders = and-renders (x .renders) (y .renders) t; clean = next-b (x .clean) (y .clean) }
+and-lawful x y t u = record { exact = λ site s b m own o. exact.seq (x .exact site s b m own o) (y .exact site s b m own o) u; renders = and-renders (x .renders) (y .renders) t; clean = next-b (x .clean) (y .clean) }
 
 -- the components of a table
 pub fields-lawful : (rs : List Row) → T (rowsFit rs) → T (rowsClear rs) → Lawful (grammar.fields rs) (λ s own. components s rs) (rRows rs) (rowsLook rs) (exact-fields.rowsLook rs)
-fields-lawful rs t u = record { exact = λ s b m own o. fields-law s b m rs u; renders = fields-renders rs t; clean = rows-b rs t }
+fields-lawful rs t u = record { exact = λ site s b m own o. fields-law site s b m rs u; renders = fields-renders rs t; clean = rows-b rs t }
 
 -- the rest of a sequence
 pub rest-lawful : (kind : ℕ) (out : List ℕ) → T (ltb kind 65536) → Lawful (grammar.rest kind out) (λ s own. parts.rest s kind out) (rKeep kind) (restLook kind) (exact.look (λ t. not (among t out)) true close)
-rest-lawful kind out t = record { exact = λ s b m own o. exact.rest-law s b m kind out; renders = rest-renders kind out t; clean = keep-b kind }
+rest-lawful kind out t = record { exact = λ site s b m own o. exact.rest-law site s b m kind out; renders = rest-renders kind out t; clean = keep-b kind }
 
 -- at least one
 abbrev pub leastTags : exact.Look → exact.Look
@@ -113,23 +113,23 @@ leastTags A = exact.seqLook A (exact.look (A .first) true close)
 module _ {P : Part} {p : List ℕ → ℕ → Reader} {f : Renderer} {L : Look} {A : exact.Look} (x : Lawful P p f L A) where
   -- and nothing more is due
   pub ended-lawful : Lawful P (λ s own. p s own then parts.ended s) f L (exact.look (A .first) (A .empty) close)
-  ended-lawful = record { exact = λ s b m own o. exact.ended-law s b m (x .exact s b m own o); renders = x .renders; clean = x .clean }
+  ended-lawful = record { exact = λ site s b m own o. exact.ended-law site s b m (x .exact site s b m own o); renders = x .renders; clean = x .clean }
 
   -- what does not look at the place of its element
   pub apart-lawful : Lawful P (λ s own. p s 0) f L A
-  apart-lawful = record { exact = λ s b m own o. x .exact s b m 0 (omega arith); renders = x .renders; clean = x .clean }
+  apart-lawful = record { exact = λ site s b m own o. x .exact site s b m 0 (omega arith); renders = x .renders; clean = x .clean }
 
   -- what is inside an element
-  body-exact : T (isClose (A .stop)) → (s : List ℕ) → Bytes s → length s ≤ 32768 → PlainBody s (λ at a e. p s at e a) P
-  body-exact z s b m = record {
-    sound = λ at a e i h l. inside-law (x .exact s b m at (omega arith)) (closed (A .stop) z) .sound at a e i h l;
-    complete = λ at a e i h l v y r q. inside-law (x .exact s b m at (omega arith)) (closed (A .stop) z) .complete at a e i h l v y r q;
+  body-exact : T (isClose (A .stop)) → (site : Site) (s : List ℕ) → Bytes s → length s ≤ 32768 → PlainBody site s (λ at a e. p s at e a) P
+  body-exact z site s b m = record {
+    sound = λ at a e i h l. inside-law (x .exact site s b m at (omega arith)) (closed (A .stop) z) .sound at a e i h l;
+    complete = λ at a e i h l v y r q. inside-law (x .exact site s b m at (omega arith)) (closed (A .stop) z) .complete at a e i h l v y r q;
   }
 
   -- a component that is due
   pub due-lawful : (t : ℕ) → T (bodily L) → T (lowTag t) → T (isClose (A .stop)) → Lawful (grammar.one (grammar.tagged t P)) (λ s own. component s t Required (λ at a e. p s at e a)) (within t f) (elemLook L) (slotLook Required t)
   due-lawful t u v w = record {
-    exact = λ s b m own o. exact.component-law s b m t (low-tag t v) (body-exact w s b m) Required;
+    exact = λ site s b m own o. exact.component-law site s b m t (low-tag t v) (body-exact w site s b m) Required;
     renders = within-renders t (low-tag t v) u (x .renders);
     clean = within-b t (low-tag t v .byte) (x .clean);
   }
@@ -138,7 +138,7 @@ module _ {P : Part} {p : List ℕ → ℕ → Reader} {f : Renderer} {L : Look} 
   pub offered-lawful : (d : Need) (t : ℕ) → T (bodily L) → T (lowTag t) → T (isClose (A .stop)) → T (not (L .empty)) →
       Lawful (grammar.slot d (grammar.tagged t P)) (λ s own. component s t d (λ at a e. p s at e a)) (when (L .first) (within t f)) (offerLook d L) (slotLook d t)
   offered-lawful d t u v w y = record {
-    exact = λ s b m own o. exact.component-law s b m t (low-tag t v) (body-exact w s b m) d;
+    exact = λ site s b m own o. exact.component-law site s b m t (low-tag t v) (body-exact w site s b m) d;
     renders = offered-renders d t (low-tag t v) u y (x .renders);
     clean = when-b (L .first) (within-b t (low-tag t v .byte) (x .clean));
   }
@@ -147,7 +147,7 @@ module _ {P : Part} {p : List ℕ → ℕ → Reader} {f : Renderer} {L : Look} 
   pub least-lawful : T (repeats L) → T (not (A .empty)) → T (isFree (A .stop)) → T (clear (A .first) (A .stop)) →
       Lawful (grammar._and_ P (many P)) (λ s own. p s own then (λ end at. repeat toEnd (λ _. p s own) (end - at) 0 end at)) (rAll (L .first) f) (leastLook L) (leastTags A)
   least-lawful t u v w = record {
-    exact = λ s b m own o. exact.seq (x .exact s b m own o) (recount (λ _. 0) total-none (list-law m (λ _. p s own) (λ j h. lift-law j 0 h (x .exact s b m own o)) u (free (A .stop) v) 0 (omega arith))) w;
+    exact = λ site s b m own o. exact.seq (x .exact site s b m own o) (recount (λ _. 0) total-none (list-law m (λ _. p s own) (λ j h. lift-law j 0 h (x .exact site s b m own o)) u (free (A .stop) v) 0 (omega arith))) w;
     renders = least-renders t (x .renders);
     clean = all-b (L .first) (x .clean);
   }
@@ -156,7 +156,7 @@ module _ {P : Part} {p : List ℕ → ℕ → Reader} {f : Renderer} {L : Look} 
   pub alone-lawful : (kind : ℕ) → T (ltb kind 65536) → T (avoids (kind ∷ []) (L .stop)) → T (not (A .empty)) → T (isFree (A .stop)) → Solid (A .first) →
       Lawful (grammar._and_ P (grammar.fill kind)) (λ s own. beforeFill s (p s own) then onlyFill s kind) (f next rFill kind) (seqLook L (fillLook kind)) (exact.look (A .first) false close)
   alone-lawful kind t u n z real = record {
-    exact = λ s b m own o. alone-law s b m (x .exact s b m own o) n (free (A .stop) z) real kind;
+    exact = λ site s b m own o. alone-law site s b m (x .exact site s b m own o) n (free (A .stop) z) real kind;
     renders = and-renders (x .renders) (fill-renders kind t) u;
     clean = next-b (x .clean) (fill-b kind);
   }
@@ -183,19 +183,19 @@ spot-in ending o l = l
 pub record Checks (P : Part) (f : ℕ → Res → Res) (more : P .Of → Type 0) : Type 0 where
   pub fallen : (own : ℕ) (x : Fault) (p : ℕ) → f own (fails x p) ≡ fails x p
   pub judges : (own : ℕ) (bs : List Rec) (ms : List ℕ) (n : ℕ) → Judges own (took bs ms n) (f own (took bs ms n))
-  pub sound : (own : ℕ) (y : P .Of) → P .Meets y → (ms : List ℕ) (n : ℕ) → f own (took (P .book y) ms n) ≡ took (P .book y) ms n → more y
-  pub complete : (own : ℕ) (y : P .Of) → P .Meets y → more y → (ms : List ℕ) (n : ℕ) → f own (took (P .book y) ms n) ≡ took (P .book y) ms n
+  pub sound : (own : ℕ) (v : Where) (y : P .Of) → P .Meets y → (ms : List ℕ) (n : ℕ) → f own (took (P .book v y) ms n) ≡ took (P .book v y) ms n → more y
+  pub complete : (own : ℕ) (v : Where) (y : P .Of) → P .Meets y → more y → (ms : List ℕ) (n : ℕ) → f own (took (P .book v y) ms n) ≡ took (P .book v y) ms n
 
 module _ {P : Part} {p : List ℕ → ℕ → Reader} {f : Renderer} {L : Look} {A : exact.Look} (x : Lawful P p f L A) (g : ℕ → Res → Res) (more : P .Of → Type 0) (c : Checks P g more) where
-  with-reads : {s : List ℕ} (own : ℕ) → own ≤ length s → {t : Stop} {end at : ℕ} {r : Res} → exact.Reads s P (λ _. 0) 0 0 t end at r → exact.Reads s (grammar.with P more) (λ _. 0) 0 0 t end at (g own r)
+  with-reads : {site : Site} {s : List ℕ} (own : ℕ) → own ≤ length s → {t : Stop} {end at : ℕ} {r : Res} → exact.Reads site s P (λ _. 0) 0 0 t end at r → exact.Reads site s (grammar.with P more) (λ _. 0) 0 0 t end at (g own r)
   with-reads own o (exact.refuses {f = y} q i) = rw (c .fallen own y q) (exact.refuses q i)
-  with-reads {s} own o {t} {end} {at} (exact.takes {rs = rs} {ms = ms} {n = n} k) = go (c .judges own rs ms n) refl
+  with-reads {site} {s} own o {t} {end} {at} (exact.takes {rs = rs} {ms = ms} {n = n} k) = go (c .judges own rs ms n) refl
     where
-      go : {w : Res} → Judges own (took rs ms n) w → g own (took rs ms n) ≡ w → exact.Reads s (grammar.with P more) (λ _. 0) 0 0 t end at w
+      go : {w : Res} → Judges own (took rs ms n) w → g own (took rs ms n) ≡ w → exact.Reads site s (grammar.with P more) (λ _. 0) 0 0 t end at w
       go (refuses y t e) z = rw e (exact.refuses own (o, t))
       go (passes e) z = rw e (exact.takes {rs = rs} {ms = ms} {n = n} (record {
         it = k .it;
-        meets = (k .meets, c .sound own (k .it) (k .meets) ms n (rw (k .book) at (z ∙ e)));
+        meets = (k .meets, c .sound own (here site at) (k .it) (k .meets) ms n (rw (k .book) at (z ∙ e)));
         low = k .low;
         high = k .high;
         bytes = k .bytes;
@@ -209,14 +209,14 @@ module _ {P : Part} {p : List ℕ → ℕ → Reader} {f : Renderer} {L : Look} 
   -- where there is more to meet
   pub with-lawful : (w : Spot) → Lawful (grammar.with P more) (λ s own end at. g (spot w own end) (p s own end at)) f L A
   with-lawful w = record {
-    exact = λ s b m own o.
-        let k = x .exact s b m own o in
+    exact = λ site s b m own o.
+        let k = x .exact site s b m own o in
         record {
           sound = λ end at h l. with-reads (spot w own end) (spot-in w o l) (k .sound end at h l);
           starts = λ y z. k .starts y (z .0);
           complete = λ end at h l y z r v u e.
               let q = k .complete end at h l y (z .0) r v u e in
-              record { ms = q .ms; n = q .n; is = rw (q .is) (c .complete (spot w own end) y (z .0) (z .1) (q .ms) (q .n)); counted = q .counted; low = q .low; high = q .high; left = q .left };
+              record { ms = q .ms; n = q .n; is = rw (q .is) (c .complete (spot w own end) (here site at) y (z .0) (z .1) (q .ms) (q .n)); counted = q .counted; low = q .low; high = q .high; left = q .left };
         };
     renders = with-renders more (x .renders);
     clean = x .clean;
@@ -227,8 +227,8 @@ module _ (kind : ℕ) where
   abbrev sealedRead : List ℕ → ℕ → Reader
   sealedRead s own end at = keep (rec kind (slice at end s) ∷ []) end (sealedRun 16 s [] at end)
 
-  sealed-exact : (s : List ℕ) → Bytes s → length s ≤ 32768 → (own : ℕ) → Plain s (sealedRead s own) (grammar.raw (rec kind) (SealedRun 16 [])) (exact.look anyTag true close)
-  sealed-exact s b m own = record {
+  sealed-exact : (site : Site) (s : List ℕ) → Bytes s → length s ≤ 32768 → (own : ℕ) → Plain site s (sealedRead s own) (grammar.raw (rec kind) (SealedRun 16 [])) (exact.look anyTag true close)
+  sealed-exact site s b m own = record {
     sound = λ end at h l. go end at h l (sealedRun 16 s [] at end) refl;
     starts = λ x y. begins x y;
     complete = λ end at h l x y r w v q.
@@ -236,7 +236,7 @@ module _ (kind : ℕ) where
         rw v (exact.whole-goes h (rw (run-complete s m 16 [] at end h l (rw z y), z) refl));
   }
     where
-      go : (end at : ℕ) → at ≤ end → end ≤ length s → (r : Run) → sealedRun 16 s [] at end ≡ r → exact.Reads s (grammar.raw (rec kind) (SealedRun 16 [])) (λ _. 0) 0 0 close end at (keep (rec kind (slice at end s) ∷ []) end r)
+      go : (end at : ℕ) → at ≤ end → end ≤ length s → (r : Run) → sealedRun 16 s [] at end ≡ r → exact.Reads site s (grammar.raw (rec kind) (SealedRun 16 [])) (λ _. 0) 0 0 close end at (keep (rec kind (slice at end s) ∷ []) end r)
       go end at h l (Refused f p) q = exact.refuses p (omega (arith, sealed-refuses 16 s [] at end h q .1), sealed-fault 16 s [] at end q)
       go end at h l (Ends i) q = exact.whole-reads (grammar.raw (rec kind) (SealedRun 16 [])) (rec kind (slice at end s) ∷ []) (slice at end s) (run-sound s b 16 [] at end h l q) h refl refl
 
@@ -246,28 +246,28 @@ module _ (kind : ℕ) where
       begins c (grammar.deep x w i m k j n e) = exact.begun x w i refl e
 
   pub sealed-lawful : T (ltb kind 65536) → Lawful (grammar.raw (rec kind) (SealedRun 16 [])) sealedRead (rKeep kind) (look (kind ∷ []) false (kind ∷ []) 8) (exact.look anyTag true close)
-  sealed-lawful t = record { exact = λ s b m own o. sealed-exact s b m own; renders = sealed-all-renders kind t; clean = keep-b kind }
+  sealed-lawful t = record { exact = λ site s b m own o. sealed-exact site s b m own; renders = sealed-all-renders kind t; clean = keep-b kind }
 
 -- a sealed component of one tag, which may lack
 pub sealed-slot-lawful : (t kind : ℕ) → T (ltb kind 65536) → Lawful (grammar.optional (grammar.sealedOne (λ x. eqb x t) kind noFront)) (λ s own. component s t Optional (parts.sealed s kind [] t)) (rKeep kind) (restLook kind) (slotLook Optional t)
 unfolding rKeep
 sealed-slot-lawful t kind k = record {
-  exact = λ s b m own o. exact.slot-law s b m (grammar.sealedOne (λ x. eqb x t) kind noFront) t (narrow (λ x. firstOf x ≡ t) (λ x e. eq-eqb (firstOf x) t e) (λ x e. eqb-true (firstOf x) t e) (sealed-law s b m (λ x. eqb x t) kind noFront)) Optional;
+  exact = λ site s b m own o. exact.slot-law site s b m (grammar.sealedOne (λ x. eqb x t) kind noFront) t (narrow (λ x. firstOf x ≡ t) (λ x e. eq-eqb (firstOf x) t e) (λ x e. eqb-true (firstOf x) t e) (sealed-law site s b m (λ x. eqb x t) kind noFront)) Optional;
   renders = optional-renders (grammar.sealedOne (λ x. eqb x t) kind noFront) tt (sealed-renders (λ x. eqb x t) kind k);
   clean = keep-b kind;
 }
 
 -- a record in front, told by what is behind it
-module _ {P : Part} {p : List ℕ → ℕ → Reader} {f : Renderer} {L : Look} {A : exact.Look} (x : Lawful P p f L A) (kind most : ℕ) (g : P .Of → List ℕ) (by : List Rec → List ℕ) (same : (y : P .Of) → P .Meets y → by (P .book y) ≡ g y) where
-  headed-reads : {s : List ℕ} {t : Stop} {end at : ℕ} {r : Res} → exact.Reads s P (λ _. 0) 0 0 t end at r → exact.Reads s (grammar.behind P (λ y. rec kind (g y))) (λ _. 0) 0 0 t end at (headedBy kind by r)
+module _ {P : Part} {p : List ℕ → ℕ → Reader} {f : Renderer} {L : Look} {A : exact.Look} (x : Lawful P p f L A) (kind most : ℕ) (g : P .Of → List ℕ) (by : List Rec → List ℕ) (same : (v : Where) (y : P .Of) → P .Meets y → by (P .book v y) ≡ g y) where
+  headed-reads : {site : Site} {s : List ℕ} {t : Stop} {end at : ℕ} {r : Res} → exact.Reads site s P (λ _. 0) 0 0 t end at r → exact.Reads site s (grammar.behind P (λ y. rec kind (g y))) (λ _. 0) 0 0 t end at (headedBy kind by r)
   headed-reads (exact.refuses q i) = exact.refuses q i
-  headed-reads (exact.takes {rs = rs} {ms = ms} {n = n} k) = exact.takes {rs = rec kind (by rs) ∷ rs} {ms = ms} {n = n} (record {
+  headed-reads {site} {at = at} (exact.takes {rs = rs} {ms = ms} {n = n} k) = exact.takes {rs = rec kind (by rs) ∷ rs} {ms = ms} {n = n} (record {
     it = k .it;
     meets = k .meets;
     low = k .low;
     high = k .high;
     bytes = k .bytes;
-    book = rw (k .book, same (k .it) (k .meets)) refl;
+    book = rw (k .book, same (here site at) (k .it) (k .meets)) refl;
     counted = k .counted;
     marks = k .marks;
     room = k .room;
@@ -276,14 +276,14 @@ module _ {P : Part} {p : List ℕ → ℕ → Reader} {f : Renderer} {L : Look} 
 
   pub headed-lawful : T (ltb kind 65536) → T (leb most 4) → ((y : P .Of) → length (g y) ≤ most) → Lawful (grammar.behind P (λ y. rec kind (g y))) (λ s own end at. headedBy kind by (p s own end at)) (from (λ k q. f)) (look (kind ∷ []) false (L .stop) (4 + most + L .credit)) A
   headed-lawful t u short = record {
-    exact = λ s b m own o.
-        let k = x .exact s b m own o in
+    exact = λ site s b m own o.
+        let k = x .exact site s b m own o in
         record {
           sound = λ end at h l. headed-reads (k .sound end at h l);
           starts = k .starts;
           complete = λ end at h l y z r v w e.
               let q = k .complete end at h l y z r v w e in
-              record { ms = q .ms; n = q .n; is = rw (q .is, same y z) refl; counted = q .counted; low = q .low; high = q .high; left = q .left };
+              record { ms = q .ms; n = q .n; is = rw (q .is, same (here site at) y z) refl; counted = q .counted; low = q .low; high = q .high; left = q .left };
         };
     renders = behind-renders kind most g t u short (x .renders);
     clean = from-b (λ k p a. x .clean);
@@ -291,18 +291,18 @@ module _ {P : Part} {p : List ℕ → ℕ → Reader} {f : Renderer} {L : Look} 
 
 -- an element that must be there, by its tag
 pub one-lawful : {I : Item} {b : List ℕ → ℕ → Body} {f : Renderer} {L : Look} → LawfulOne I b f L → Lawful (grammar.one I) (λ s own. parts.element s (b s)) f L (exact.look anyTag false (tags []))
-one-lawful x = record { exact = λ s b m own o. exact.element-law s b m anyTag (x .exact s b m) (λ _ _. refl); renders = x .renders; clean = x .clean }
+one-lawful x = record { exact = λ site s b m own o. exact.element-law site s b m anyTag (x .exact site s b m) (λ _ _. refl); renders = x .renders; clean = x .clean }
 
 -- sealed, whatever its tag
-sealed-any : (kind : ℕ) (s : List ℕ) → Bytes s → length s ≤ 32768 → ItemLaw s (λ t. parts.sealed s kind [] t) (grammar.sealedOne anyTag kind noFront) (λ _. 0) 0 0 Any
-sealed-any kind s b m = narrow Any (λ _ _. refl) (λ _ _. tt) (sealed-law s b m anyTag kind noFront)
+sealed-any : (kind : ℕ) (site : Site) (s : List ℕ) → Bytes s → length s ≤ 32768 → ItemLaw site s (λ t. parts.sealed s kind [] t) (grammar.sealedOne anyTag kind noFront) (λ _. 0) 0 0 Any
+sealed-any kind site s b m = narrow Any (λ _ _. refl) (λ _ _. tt) (sealed-law site s b m anyTag kind noFront)
 
 pub sealed-one-lawful : (kind : ℕ) → T (ltb kind 65536) → LawfulOne (grammar.sealedOne anyTag kind noFront) (λ s t. parts.sealed s kind [] t) plain (look (kind ∷ []) false [] 0)
 sealed-one-lawful kind t = record { exact = sealed-any kind; renders = sealed-renders anyTag kind t; clean = plain-b }
 
 -- the same, known by its kind
 pub kept-lawful : (kind : ℕ) → T (ltb kind 65536) → Lawful (grammar.one (grammar.sealedOne anyTag kind noFront)) (λ s own. parts.element s (parts.sealed s kind [])) (rKeep kind) (look (kind ∷ []) false (kind ∷ []) 0) (exact.look anyTag false (tags []))
-kept-lawful kind t = record { exact = λ s b m own o. exact.element-law s b m anyTag (sealed-any kind s b m) (λ _ _. refl); renders = kept-renders anyTag kind t; clean = keep-b kind }
+kept-lawful kind t = record { exact = λ site s b m own o. exact.element-law site s b m anyTag (sealed-any kind site s b m) (λ _ _. refl); renders = kept-renders anyTag kind t; clean = keep-b kind }
 
 -- one of a tag, or else sealed
 abbrev pub isNot : ℕ → ℕ → Bool
@@ -315,9 +315,9 @@ module _ {P : Part} {p : List ℕ → ℕ → Reader} {f : Renderer} {L : Look} 
   pub or-lawful : T (bodily L) → T (lowTag t) → T (isClose (A .stop)) → T (not (L .empty)) → T (avoids (kind ∷ []) (L .first)) → T (ltb kind 65536) →
       LawfulOne (grammar._or_ (grammar.tagged t P) (grammar.sealedOne (isNot t) kind noFront)) (λ s v at a e. choose (eqb v t) (λ _. p s at e a) (λ _. parts.sealed s kind [] v at a e)) (either (L .first) (within t f) plain) (joinLook (elemLook L) (plainLook kind))
   or-lawful u v w n d k = record {
-    exact = λ s b m. or-law (grammar.tagged t P) (grammar.sealedOne (isNot t) kind noFront) (λ _. 0) Any (λ v. eqb v t)
-        (narrow (λ y. Any y × (eqb (firstOf y) t ≡ true)) (λ y e. eqb-true (firstOf y) t (e .1)) (λ y e. (tt, eq-eqb (firstOf y) t e)) (exact.tagged-law s b m t (low-tag t v) (body-exact x w s b m)))
-        (narrow (λ y. Any y × (eqb (firstOf y) t ≡ false)) (λ y e. rw (e .1) refl) (λ y e. (tt, not-true (eqb (firstOf y) t) e)) (sealed-law s b m (isNot t) kind noFront));
+    exact = λ site s b m. or-law (grammar.tagged t P) (grammar.sealedOne (isNot t) kind noFront) (λ _. 0) Any (λ v. eqb v t)
+        (narrow (λ y. Any y × (eqb (firstOf y) t ≡ true)) (λ y e. eqb-true (firstOf y) t (e .1)) (λ y e. (tt, eq-eqb (firstOf y) t e)) (exact.tagged-law site s b m t (low-tag t v) (body-exact x w site s b m)))
+        (narrow (λ y. Any y × (eqb (firstOf y) t ≡ false)) (λ y e. rw (e .1) refl) (λ y e. (tt, not-true (eqb (firstOf y) t) e)) (sealed-law site s b m (isNot t) kind noFront));
     renders = or-renders (grammar.tagged t P) (grammar.sealedOne (isNot t) kind noFront) (within-renders t (low-tag t v) u (x .renders)) (sealed-renders (isNot t) kind k) n tt d;
     clean = either-b (L .first) (within-b t (low-tag t v .byte) (x .clean)) plain-b;
   }
@@ -330,19 +330,19 @@ module _ {P : Part} {p : List ℕ → ℕ → Reader} {f : Renderer} {L : Look} 
     abbrev bodies : List ℕ → ℕ → Body
     bodies s v at a e = choose (eqb v t) (λ _. p s at e a) (λ _. parts.sealed s kind [] v at a e)
 
-    each-law : T (lowTag t) → T (isClose (A .stop)) → (s : List ℕ) → Bytes s → length s ≤ 32768 → ItemLaw s (bodies s) (grammar._or_ (grammar.tagged t P) (grammar.sealedOne others kind noFront)) (λ _. 0) 0 0 (λ y. Any y × (which (firstOf y) ≡ true))
-    each-law v w s b m = or-law (grammar.tagged t P) (grammar.sealedOne others kind noFront) (λ _. 0) (λ y. Any y × (which (firstOf y) ≡ true)) (λ v. eqb v t)
-        (narrow (λ y. (Any y × (which (firstOf y) ≡ true)) × (eqb (firstOf y) t ≡ true)) (λ y e. eqb-true (firstOf y) t (e .1)) (λ y e. ((tt, rw e with-it), eq-eqb (firstOf y) t e)) (exact.tagged-law s b m t (low-tag t v) (body-exact x w s b m)))
-        (narrow (λ y. (Any y × (which (firstOf y) ≡ true)) × (eqb (firstOf y) t ≡ false)) (λ y e. rw (e .1, e .0 .1) refl) (λ y e. let g = both-true (isNot t (firstOf y)) (which (firstOf y)) e in ((tt, g .1), not-true (eqb (firstOf y) t) (g .0))) (sealed-law s b m others kind noFront))
+    each-law : T (lowTag t) → T (isClose (A .stop)) → (site : Site) (s : List ℕ) → Bytes s → length s ≤ 32768 → ItemLaw site s (bodies s) (grammar._or_ (grammar.tagged t P) (grammar.sealedOne others kind noFront)) (λ _. 0) 0 0 (λ y. Any y × (which (firstOf y) ≡ true))
+    each-law v w site s b m = or-law (grammar.tagged t P) (grammar.sealedOne others kind noFront) (λ _. 0) (λ y. Any y × (which (firstOf y) ≡ true)) (λ v. eqb v t)
+        (narrow (λ y. (Any y × (which (firstOf y) ≡ true)) × (eqb (firstOf y) t ≡ true)) (λ y e. eqb-true (firstOf y) t (e .1)) (λ y e. ((tt, rw e with-it), eq-eqb (firstOf y) t e)) (exact.tagged-law site s b m t (low-tag t v) (body-exact x w site s b m)))
+        (narrow (λ y. (Any y × (which (firstOf y) ≡ true)) × (eqb (firstOf y) t ≡ false)) (λ y e. rw (e .1, e .0 .1) refl) (λ y e. let g = both-true (isNot t (firstOf y)) (which (firstOf y)) e in ((tt, g .1), not-true (eqb (firstOf y) t) (g .0))) (sealed-law site s b m others kind noFront))
 
     pub those-lawful : T (bodily L) → T (lowTag t) → T (isClose (A .stop)) → T (not (L .empty)) → T (avoids (kind ∷ []) (L .first)) → T (ltb kind 65536) →
-        LawfulCounted 0 (grammar.one (grammar._or_ (grammar.tagged t P) (grammar.sealedOne others kind noFront))) (λ _. 0) (λ s k. parts.element s (λ v at a e. choose (which v) (λ _. bodies s v at a e) (λ _. fails NotDue at)))
+        LawfulCounted 0 (grammar.one (grammar._or_ (grammar.tagged t P) (grammar.sealedOne others kind noFront))) (λ _. 0) (λ _ s k. parts.element s (λ v at a e. choose (which v) (λ _. bodies s v at a e) (λ _. fails NotDue at)))
         (either (L .first) (within t f) plain) (joinLook (elemLook L) (plainLook kind)) (exact.look which false (tags []))
     those-lawful u v w n d k = record {
-      exact = λ s b m j h.
+      exact = λ site s b m j h.
           let z : j ≡ 0 = omega (arith, h) in
-          let g = each-law v w s b m in
-          rw z (exact.element-law s b m which (otherwise-law Any which g) (λ i y. g .begins i y .1));
+          let g = each-law v w site s b m in
+          rw z (exact.element-law site s b m which (otherwise-law Any which g) (λ i y. g .begins i y .1));
       renders = or-renders (grammar.tagged t P) (grammar.sealedOne others kind noFront) (within-renders t (low-tag t v) u (x .renders)) (sealed-renders others kind k) n tt d;
       clean = either-b (L .first) (within-b t (low-tag t v .byte) (x .clean)) plain-b;
     }
@@ -356,7 +356,7 @@ module _ {P : Part} {p : List ℕ → ℕ → Reader} {f : Renderer} {L : Look} 
   loose : (e : Bool) → (T (A .empty) → T e) → (t : Stop) → A .stop ≡ t → Lawful P p f M (exact.look anyTag e t)
   loose e h t q =
       let l : Lawful P p f M (exact.look anyTag e (A .stop)) = record {
-        exact = λ s b m own o. let k = x .exact s b m own o in record { sound = k .sound; starts = λ y z. begins-any e h (k .starts y z); complete = k .complete };
+        exact = λ site s b m own o. let k = x .exact site s b m own o in record { sound = k .sound; starts = λ y z. begins-any e h (k .starts y z); complete = k .complete };
         renders = weaken L M u (x .renders);
         clean = x .clean;
       } in
@@ -382,7 +382,7 @@ rAhead none q = q
 rAhead (some r) q = from (λ k p. q)
 
 abbrev pub partAhead : Option Rec → Part → Part
-partAhead f P = record { Of = P .Of; bytes = P .bytes; book = λ x. frontOf f ++ P .book x; Meets = P .Meets }
+partAhead f P = record { Of = P .Of; bytes = P .bytes; book = λ v x. frontOf f ++ P .book v x; Meets = P .Meets }
 
 abbrev pub aheadLook : Option Rec → Look → Look
 aheadLook none L = L
@@ -400,7 +400,7 @@ also-then r (took bs ms n) q = go (q n)
     go (fails f p) = refl
     go (took cs ns m) = refl
 
-ahead-exact : (f : Option Rec) (p q : Reader) {s : List ℕ} {P : Part} {c : P .Of → ℕ} {k N : ℕ} → BodyLaw s (inside (p then q)) P c k N → BodyLaw s (inside (ahead f p then q)) (partAhead f P) c k N
+ahead-exact : (f : Option Rec) (p q : Reader) {site : Site} {s : List ℕ} {P : Part} {c : P .Of → ℕ} {k N : ℕ} → BodyLaw site s (inside (p then q)) P c k N → BodyLaw site s (inside (ahead f p then q)) (partAhead f P) c k N
 ahead-exact none p q g = g
 ahead-exact (some r) p q g =
     let f = behind-body r g in
@@ -417,22 +417,22 @@ ahead-clean : (f : Option Rec) {q : Renderer} → Outs q → Outs (rAhead f q)
 ahead-clean none g = g
 ahead-clean (some r) g = from-b (λ k p a. g)
 
-module _ {N : ℕ} {P : Part} {c : P .Of → ℕ} {p : List ℕ → ℕ → Reader} {q : Renderer} {L : Look} {A : exact.Look} (x : LawfulCounted N P c p q L A) where
+module _ {N : ℕ} {P : Part} {c : P .Of → ℕ} {p : Site → List ℕ → ℕ → Reader} {q : Renderer} {L : Look} {A : exact.Look} (x : LawfulCounted N P c p q L A) where
   -- one after the other, to the end of the container
   pub listed-lawful : T (repeats L) → T (not (A .empty)) → T (isFree (A .stop)) →
-      LawfulCounted N (many P) (total c) (λ s k end at. repeat toEnd (p s) (end - at) k end at) (rAll (L .first) q) (manyLook L) (exact.look (A .first) true close)
+      LawfulCounted N (many P) (total c) (λ site s k end at. repeat toEnd (p site s) (end - at) k end at) (rAll (L .first) q) (manyLook L) (exact.look (A .first) true close)
   listed-lawful t n f = record {
-    exact = λ s b m k h. list-law m (p s) (λ j i. x .exact s b m j i) n (free (A .stop) f) k h;
+    exact = λ site s b m k h. list-law m (p site s) (λ j i. x .exact site s b m j i) n (free (A .stop) f) k h;
     renders = many-renders t (x .renders);
     clean = all-b (L .first) (x .clean);
   }
 
   -- the same behind a record, and then possibly fill
   pub filed-lawful : (f : Option Rec) (kind : ℕ) → Short f → T (repeats L) → T (not (A .empty)) → T (isFree (A .stop)) → Solid (A .first) → T (ltb kind 65536) → T (avoids (kind ∷ []) (aheadLook f (manyLook L) .stop)) →
-      LawfulFile N (partAhead f (grammar._and_ (many P) (grammar.fill kind))) (λ x. total c (x .0)) (λ s k. ahead f (λ end at. repeat (toFill s) (p s) (end - at) k end at) then fill s kind)
+      LawfulFile N (partAhead f (grammar._and_ (many P) (grammar.fill kind))) (λ x. total c (x .0)) (λ site s k. ahead f (λ end at. repeat (toFill s) (p site s) (end - at) k end at) then fill s kind)
       (rAhead f (rAll (L .first) q) next rFill kind) (seqLook (aheadLook f (manyLook L)) (fillLook kind))
   filed-lawful f kind z t n u real w v = record {
-    exact = λ s b m k h. ahead-exact f (λ end at. repeat (toFill s) (p s) (end - at) k end at) (fill s kind) (filed-law m P c N (p s) (λ j i. x .exact s b m j i) n (free (A .stop) u) real kind k h);
+    exact = λ site s b m k h. ahead-exact f (λ end at. repeat (toFill s) (p site s) (end - at) k end at) (fill s kind) (filed-law m P c N (p site s) (λ j i. x .exact site s b m j i) n (free (A .stop) u) real kind k h);
     renders = ahead-renders f z (many-renders t (x .renders)) (fill-renders kind w) v;
     clean = next-b (ahead-clean f (all-b (L .first) (x .clean))) (fill-b kind);
   }
@@ -440,10 +440,10 @@ module _ {N : ℕ} {P : Part} {c : P .Of → ℕ} {p : List ℕ → ℕ → Read
   -- the same of at most one
   pub single-lawful : (f : Option Rec) (kind : ℕ) → Short f → T (repeats L) → T (not (A .empty)) → T (isFree (A .stop)) → Solid (A .first) → T (ltb kind 65536) → T (avoids (kind ∷ []) (aheadLook f (manyLook L) .stop)) →
       (g : Fault) → ((x : P .Of) → c x ≡ 1) → T (ofReading g) →
-      LawfulFile N (grammar.with (partAhead f (grammar._and_ (many P) (grammar.fill kind))) (λ x. length (x .0) ≤ 1)) (λ x. total c (x .0)) (λ s k. ahead f (λ end at. repeat (toFill s) (upTo (k + 1) g (p s)) (end - at) k end at) then fill s kind)
+      LawfulFile N (grammar.with (partAhead f (grammar._and_ (many P) (grammar.fill kind))) (λ x. length (x .0) ≤ 1)) (λ x. total c (x .0)) (λ site s k. ahead f (λ end at. repeat (toFill s) (upTo (k + 1) g (p site s)) (end - at) k end at) then fill s kind)
       (rAhead f (rAll (L .first) q) next rFill kind) (seqLook (aheadLook f (manyLook L)) (fillLook kind))
   single-lawful f kind z t n u real w v g once told = record {
-    exact = λ s b m k h. ahead-exact f (λ end at. repeat (toFill s) (upTo (k + 1) g (p s)) (end - at) k end at) (fill s kind) (single-law m P c once N (p s) (λ j i. x .exact s b m j i) n (free (A .stop) u) real g told kind k h);
+    exact = λ site s b m k h. ahead-exact f (λ end at. repeat (toFill s) (upTo (k + 1) g (p site s)) (end - at) k end at) (fill s kind) (single-law m P c once N (p site s) (λ j i. x .exact site s b m j i) n (free (A .stop) u) real g told kind k h);
     renders = with-renders (λ x. length (x .0) ≤ 1) (filed-lawful f kind z t n u real w v .renders);
     clean = filed-lawful f kind z t n u real w v .clean;
   }

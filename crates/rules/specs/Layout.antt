@@ -24,7 +24,7 @@ use Rattle.rules.specs.Looks.{Look, look, seqLook, elemLook, offerLook, 
 use Rattle.rules.specs.Rendering.{Renderer, _next_, within, when, either, from, plain, rRows, rKeep, rAll, rFill}
 use Rattle.rules.specs.Fills.{beforeFill, onlyFill}
 use Rattle.rules.specs.Grammar as grammar
-use Rattle.rules.specs.Grammar.{Part, Item, SealedRun}
+use Rattle.rules.specs.Grammar.{Where, Part, Item, SealedRun}
 use Rattle.rules.specs.LookLaws.{avoids, bodily, repeats, under}
 use Rattle.rules.specs.RenderLaws.{rowsFit}
 use Rattle.rules.specs.GrammarLaws as exact
@@ -140,7 +140,7 @@ due t P = record {
   kinds = elemLook (P .kinds);
   tags = slotLook Required t;
   all = P .all;
-  only = P .only;
+  only = λ v x. P .only _ x;
   Fine = P .Fine × Held t P;
   lawful = λ z. lawful.due-lawful (P .lawful (z .0)) t (z .1 .0) (z .1 .1) (z .1 .2);
 }
@@ -197,7 +197,7 @@ abbrev pub with : (P : Layout) (f : ℕ → Res → Res) (more : P .part .Of →
 with P f more c = withAt itself P f more c
 
 -- behind a record that tells something of it, in at most so many bytes
-abbrev pub headed : (kind most : ℕ) (by : List Rec → List ℕ) (P : Layout) (g : P .part .Of → List ℕ) → ((x : P .part .Of) → P .part .Meets x → by (P .part .book x) ≡ g x) → ((x : P .part .Of) → length (g x) ≤ most) → Layout
+abbrev pub headed : (kind most : ℕ) (by : List Rec → List ℕ) (P : Layout) (g : P .part .Of → List ℕ) → ((v : Where) (x : P .part .Of) → P .part .Meets x → by (P .part .book v x) ≡ g x) → ((x : P .part .Of) → length (g x) ≤ most) → Layout
 headed kind most by P g same short = record {
   part = grammar.behind (P .part) (λ x. rec kind (g x));
   read = λ s own end at. headedBy kind by (P .read s own end at);
@@ -205,14 +205,14 @@ headed kind most by P g same short = record {
   kinds = look (kind ∷ []) false (P .kinds .stop) (4 + most + P .kinds .credit);
   tags = P .tags;
   all = kind ∷ P .all;
-  only = λ x. there (kinds.itself kind (P .all)) (late (kind ∷ []) (P .all) (P .only x));
+  only = λ v x. there (kinds.itself kind (P .all)) (late (kind ∷ []) (P .all) (P .only v x));
   Fine = P .Fine × T (ltb kind 65536) × T (leb most 4);
   lawful = λ z. lawful.headed-lawful (P .lawful (z .0)) kind most g by same (z .1) (z .2) short;
 }
 
 -- an empty record in front
 abbrev pub opened : ℕ → Layout → Layout
-opened kind P = headed kind 0 (λ _. []) P (λ _. []) (λ _ _. refl) (λ _. le-refl 0)
+opened kind P = headed kind 0 (λ _. []) P (λ _. []) (λ _ _ _. refl) (λ _. le-refl 0)
 
 -- sealed, of one tag, and it may lack
 abbrev pub sealedIf : ℕ → ℕ → Layout
@@ -291,7 +291,7 @@ orSealed t P kind = record {
   render = either (P .kinds .first) (within t (P .render)) plain;
   kinds = joinLook (elemLook (P .kinds)) (plainLook kind);
   all = P .all ++ kind ∷ [];
-  only = or-only (grammar.tagged t (P .part)) (grammar.sealedOne (isNot t) kind noFront) (P .only) (sealed-only kind (isNot t) noFront);
+  only = or-only (grammar.tagged t (P .part)) (grammar.sealedOne (isNot t) kind noFront) (λ v x. P .only _ x) (sealed-only kind (isNot t) noFront);
   Fine = P .Fine × Held t P × T (not (P .kinds .empty)) × T (avoids (kind ∷ []) (P .kinds .first)) × T (ltb kind 65536);
   lawful = λ z. lawful.or-lawful (P .lawful (z .0)) t kind (z .1 .0) (z .1 .1) (z .1 .2) (z .2) (z .3) (z .4);
 }
@@ -323,10 +323,10 @@ abbrev pub typeAll : (ObjectType → Layout) → List ℕ
 typeAll f = f PrivateKey .all ++ (f Certificate .all ++ (f Password .all ++ f Sealed .all))
 
 pub type-only : (f : ObjectType → Layout) (x : ObjectType) → Only (f x .part) (typeAll f)
-type-only f PrivateKey y = early (f PrivateKey .all) (f Certificate .all ++ (f Password .all ++ f Sealed .all)) (f PrivateKey .only y)
-type-only f Certificate y = late (f PrivateKey .all) (f Certificate .all ++ (f Password .all ++ f Sealed .all)) (early (f Certificate .all) (f Password .all ++ f Sealed .all) (f Certificate .only y))
-type-only f Password y = late (f PrivateKey .all) (f Certificate .all ++ (f Password .all ++ f Sealed .all)) (late (f Certificate .all) (f Password .all ++ f Sealed .all) (early (f Password .all) (f Sealed .all) (f Password .only y)))
-type-only f Sealed y = late (f PrivateKey .all) (f Certificate .all ++ (f Password .all ++ f Sealed .all)) (late (f Certificate .all) (f Password .all ++ f Sealed .all) (late (f Password .all) (f Sealed .all) (f Sealed .only y)))
+type-only f PrivateKey v y = early (f PrivateKey .all) (f Certificate .all ++ (f Password .all ++ f Sealed .all)) (f PrivateKey .only v y)
+type-only f Certificate v y = late (f PrivateKey .all) (f Certificate .all ++ (f Password .all ++ f Sealed .all)) (early (f Certificate .all) (f Password .all ++ f Sealed .all) (f Certificate .only v y))
+type-only f Password v y = late (f PrivateKey .all) (f Certificate .all ++ (f Password .all ++ f Sealed .all)) (late (f Certificate .all) (f Password .all ++ f Sealed .all) (early (f Password .all) (f Sealed .all) (f Password .only v y)))
+type-only f Sealed v y = late (f PrivateKey .all) (f Certificate .all ++ (f Password .all ++ f Sealed .all)) (late (f Certificate .all) (f Password .all ++ f Sealed .all) (late (f Password .all) (f Sealed .all) (f Sealed .only v y)))
 
 abbrev pub OfType : Look → Layout → Type 0
 OfType M P = P .Fine × T (under (P .kinds) M) × T (isFree (P .tags .stop)) × T (not (P .tags .empty))

@@ -53,7 +53,7 @@ conditionOf l = record {
   all = kindsLook .first;
   only = condition-only l;
   Fine = Unit {0};
-  lawful = λ _. record { exact = λ s b m own o. plain-condition s b m l; renders = condition-renders l; clean = condition-clean l };
+  lawful = λ _. record { exact = λ site s b m own o. plain-condition site s b m l; renders = condition-renders l; clean = condition-clean l };
 }
 
 -- "At most 8 deep (house), a leaf at the top being 1"
@@ -126,7 +126,7 @@ templateParts = fields templateRows and maybe 0x73 (opened 0x0205 discretionary)
 
 -- "5 where a template of ours has neither path nor 73", at its end; "The answer says which templates are ours": 0201 in front
 unfoldable pub template : Layout
-template = headed 0x0201 1 oursIn (withAt ending templateParts reached (OursReached (discretionary .part)) (reaches (discretionary .part))) (λ (((aid, _), _), _). flagOf aid) (λ _ _. refl) (λ _. le-refl 1)
+template = headed 0x0201 1 oursIn (withAt ending templateParts reached (OursReached (discretionary .part)) (reaches (discretionary .part))) (λ (((aid, _), _), _). flagOf aid) (λ _ _ _. refl) (λ _. le-refl 1)
 
 -- all of these, where a law computes with them
 unfoldable pub insides : Unit {0}

@@ -10,6 +10,7 @@ unfoldable pub use Rattle.rules.specs.Conditions.{conditionAs, condition
 use Rattle.rules.specs.Conditions as conditions
 use Rattle.rules.specs.Layout.{bodyOf, ended, apart}
 use Rattle.rules.specs.Layouts as layouts
+use Rattle.rules.specs.Grammar.{Site}
 use Rattle.rules.specs.Counted.{numberedBody}
 use Rattle.rules.specs.Entries as entries
 use Rattle.rules.specs.Entries.{objectTag}
@@ -63,9 +64,9 @@ module _ (s : List ℕ) where
   abbrev pub contents : ℕ → ℕ → Reader
   contents entry tag = layouts.contents entry tag .read s 0
 
-  unfoldable pub objectBody : ℕ → ℕ → Body
-  objectBody entry t at a e = numberedBody 0x0120 objectTag (layouts.contents entry) entry s t at a e
+  unfoldable pub objectBody : Site → ℕ → ℕ → Body
+  objectBody site entry t at a e = numberedBody 0x0120 objectTag (layouts.contents entry) entry site s t at a e
 
-  -- the object due at a place, after k objects of the dump
-  abbrev pub object : ℕ → ℕ → Reader
-  object entry k = entries.object entry .read s k
+  -- the object due at a place of a file, after k objects of the dump
+  abbrev pub object : Site → ℕ → ℕ → Reader
+  object site entry k = entries.object entry .read site s k

@@ -16,7 +16,7 @@ use Rattle.rules.specs.declared.table.Need.the-variants.{Required, Optio
 use Rattle.rules.specs.declared.table.Row.{Row}
 use Rattle.rules.specs.Reading.{Rec, rec}
 use Rattle.rules.specs.Tables.{ownIdRow}
-use Rattle.rules.specs.Grammar.{slot, tagged, unlessEmpty, payOf, field, fields, flat}
+use Rattle.rules.specs.Grammar.{Where, _on_, each, Part, _and_, slot, tagged, unlessEmpty, payOf, field, fields, flat}
 use Rattle.rules.specs.Kinds.{Among, none-there, there, kindsOf}
 use Rattle.rules.specs.Layout.{Layout}
 use Rattle.rules.specs.Files.{Name, namesPath, namesOf}
@@ -39,11 +39,20 @@ pays-append k (r ∷ rs) ss = go (eqb (r .kind) k) (pays-append k rs ss)
     go true h = rw h refl
     go false h = h
 
+pub and-pays : (k : ℕ) (P Q : Part) (v : Where) (x : P .Of) (y : Q .Of) {f g : List (List ℕ)} → pays k (P .book v x) ≡ f → pays k (Q .book (v on length (P .bytes x)) y) ≡ g → pays k ((P and Q) .book v (x, y)) ≡ f ++ g
+and-pays k P Q v x y e d = pays-append k (P .book v x) (Q .book (v on length (P .bytes x)) y) ∙ rw (e, d) refl
+
 -- of parts one after the other, from those of each
 pub pays-flat : {A : Type 0} (k : ℕ) (f : A → List Rec) (g : A → List (List ℕ)) → ((x : A) → pays k (f x) ≡ g x) → (xs : List A) → pays k (flat f xs) ≡ flat g xs
 unfolding pays
 pays-flat k f g h [] = refl
 pays-flat k f g h (x ∷ xs) = pays-append k (f x) (flat f xs) ∙ rw (h x, pays-flat k f g h xs) refl
+
+-- the same where they stand one behind the other
+pub pays-each : {A : Type 0} (k : ℕ) (b : A → List ℕ) (f : Where → A → List Rec) (g : A → List (List ℕ)) → ((v : Where) (x : A) → pays k (f v x) ≡ g x) → (v : Where) (xs : List A) → pays k (each b f v xs) ≡ flat g xs
+unfolding pays
+pays-each k b f g h v [] = refl
+pays-each k b f g h v (x ∷ xs) = pays-append k (f v x) (each b f (v on length (b x)) xs) ∙ rw (h v x, pays-each k b f g h (v on length (b x)) xs) refl
 
 -- the names in records behind records
 pub names-append : (rs ss : List Rec) → namesOf (rs ++ ss) ≡ namesOf rs ++ namesOf ss
@@ -80,8 +89,8 @@ pays-none k ks t (there {r = r} {rs = rs} h g) = go (eqb (r .kind) k) refl (pays
     go false e i = i
 
 -- of a layout without that kind
-pub lacks : (k : ℕ) (P : Layout) → T (not (among k (P .all))) → (x : P .part .Of) → pays k (P .part .book x) ≡ []
-lacks k P t x = pays-none k (P .all) t (P .only x)
+pub lacks : (k : ℕ) (P : Layout) → T (not (among k (P .all))) → (v : Where) (x : P .part .Of) → pays k (P .part .book v x) ≡ []
+lacks k P t v x = pays-none k (P .all) t (P .only v x)
 
 -- how many of these kinds are k
 abbrev pub times : ℕ → List ℕ → ℕ
@@ -120,16 +129,16 @@ rest-few k kind [] = none-few k (kind ∷ [])
 rest-few k kind (x ∷ c) = one-few k kind (x ∷ c)
 
 -- the components of a table
-slot-few : (k : ℕ) (r : Row) (d : Need) (x : slot d (tagged (r .tag) (field r)) .Of) → Few k (r .kind ∷ []) (slot d (tagged (r .tag) (field r)) .book x)
-slot-few k r Required x = one-few k (r .kind) (payOf (r .form) x)
-slot-few k r Optional none = none-few k (r .kind ∷ [])
-slot-few k r Optional (some x) = one-few k (r .kind) (payOf (r .form) x)
-slot-few k r (Default v) none = none-few k (r .kind ∷ [])
-slot-few k r (Default v) (some x) = one-few k (r .kind) (payOf (r .form) x)
+slot-few : (k : ℕ) (r : Row) (d : Need) (v : Where) (x : slot d (tagged (r .tag) (field r)) .Of) → Few k (r .kind ∷ []) (slot d (tagged (r .tag) (field r)) .book v x)
+slot-few k r Required v x = one-few k (r .kind) (payOf (r .form) x)
+slot-few k r Optional v none = none-few k (r .kind ∷ [])
+slot-few k r Optional v (some x) = one-few k (r .kind) (payOf (r .form) x)
+slot-few k r (Default d) v none = none-few k (r .kind ∷ [])
+slot-few k r (Default d) v (some x) = one-few k (r .kind) (payOf (r .form) x)
 
-pub fields-few : (k : ℕ) (rs : List Row) (x : fields rs .Of) → Few k (kindsOf rs) (fields rs .book x)
-fields-few k [] x = none-few k []
-fields-few k (r ∷ rs) (x, y) = and-few {l = r .kind ∷ []} (slot-few k r (r .need) x) (fields-few k rs y)
+pub fields-few : (k : ℕ) (rs : List Row) (v : Where) (x : fields rs .Of) → Few k (kindsOf rs) (fields rs .book v x)
+fields-few k [] v x = none-few k []
+fields-few k (r ∷ rs) v (x, y) = and-few {l = r .kind ∷ []} (slot-few k r (r .need) v x) (fields-few k rs _ y)
 
 -- the records of kind k, by their payloads
 pub in-pays : (k : ℕ) (x : List ℕ) (rs : List Rec) → List·Memᴰ x (pays k rs) ↔ List·Memᴰ (rec k x) rs

@@ -5,6 +5,7 @@ mod class;
 mod kept;
 mod outcome;
 mod rows;
+mod site;
 mod table;
 mod types;
 
@@ -22,6 +23,7 @@ pub use outcome::Outcome;
 pub use rows::count_of;
 pub use rows::rest_of;
 pub use rows::row_of;
+pub use site::Site;
 pub use table::Class;
 pub use table::Need;
 pub use table::ObjectType;

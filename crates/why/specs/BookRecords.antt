@@ -10,6 +10,7 @@ use Rattle.elements.specs.Sealed.{among}
 use Rattle.elements.specs.ChoiceLaws.{all-both, both-true}
 use Rattle.rules.specs.Reading.{Rec, rec}
 use Rattle.rules.specs.TestLaws.{is-true, from-true, clash}
+use Rattle.rules.specs.Grammar.{origin}
 use Rattle.rules.specs.Kinds.{Among, none-there, there}
 use Rattle.rules.specs.Blocks.{closing, every, every-kind, inner, info-inner}
 use Rattle.rules.specs.Layouts as layouts
@@ -68,16 +69,16 @@ not-info ks t at h (there {r = r} a g) e (List·Memᴰ·tail m) = not-info ks t 
 in-book : (c : Card) (h : Held) → among (h .kind) identifierKinds ≡ true → List·Memᴰ h (heldAll 0 (bookOf c)) → Inside (objectsOf (bookOf c)) h
 unfolding layouts.cia layouts.info
 in-book c h e m =
-    let info = card.cia .book (c .info) in
-    let others = card.od .book (c .main) ++ card.files (card.namesOf (c .main)) .book (c .dirs) in
-    let bs = others ++ card.efDir .book (c .dir) in
-    let a = append-assoc info others (card.efDir .book (c .dir)) in
+    let info = card.cia .book origin (c .info) in
+    let others = card.od .book origin (c .main) ++ card.files 1 (card.namesOf (c .main)) .book origin (c .dirs) in
+    let bs = others ++ card.efDir .book origin (c .dir) in
+    let a = append-assoc info others (card.efDir .book origin (c .dir)) in
     let within : closing (h .kind) ≡ false = untrue (closing (h .kind)) (every-kind (λ k. not (closing k)) (h .kind) identifierKinds tt (from-true (among (h .kind) identifierKinds) e)) in
     rw a
     (⊎-elim
-    (λ n. absurd (not-info (layouts.cia .all) tt 0 h (layouts.cia .only (c .info)) e n))
+    (λ n. absurd (not-info (layouts.cia .all) tt 0 h (layouts.cia .only origin (c .info)) e n))
     (λ w. rw (w .1) (in-blocks (card-blocks c) (w .0) h within (w .2)))
-    (behind-or 0 info bs h (info-inner (c .info)) (rw a at m)))
+    (behind-or 0 info bs h (info-inner origin (c .info)) (rw a at m)))
 
 -- the facts speak of all of them, and of no others
 module _ (c : Card) (link : ℕ) (some : link ≡ 0 → ⊥) (x : List ℕ) (h : Held) where

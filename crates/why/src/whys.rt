@@ -17,7 +17,7 @@ ghost use Rattle.links.specs.Chains.{Blank, Chained};
 ghost use Rattle.why.specs.Why.{why};
 ghost use Rattle.why.specs.Whys.{whyTold, WhyTold, Missed, Explained};
 
-// Why a link is missing that the record from p to e states.
+// Why a link is missing that the record at p states.
 fn missed(b: &[u8], link: u32, p: usize, n: usize, entries: &[u8], places: &[usize]) -> Why
     requires { ⌜ Indexed (now b) (now entries) (now places) n × Within (now b) 0 × (p + 4 ≤ length (now b)) ⌝ }
     ensures { λ r. ⌜ Missed (now (b .entry)) link p r ⌝ }

@@ -1,4 +1,4 @@
-//! An independent reader of card directories: document 01, and items 1 to 7 of document 02, in plain Rust, written
+//! An independent reader of card directories: document 01, and items 1 to 8 of document 02, in plain Rust, written
 //! from their words alone.
 //!
 //! Nothing here is proved and nothing here is fast. It exists to be compared with the proved library.

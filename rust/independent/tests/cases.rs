@@ -12,9 +12,9 @@ fn shared_case() {
     let dump = shared();
     assert_eq!(dump.len(), 105);
     let book = read(&dump).unwrap();
-    assert_eq!(book.len(), 126);
+    assert_eq!(book.len(), 134);
     let missing = 4_294_967_295;
-    assert_eq!(links(&book).unwrap(), [[1, 0, 42, 1], [3, 0, 47, missing], [1, 1, 84, missing]]);
+    assert_eq!(links(&book).unwrap(), [[1, 0, 46, 1], [3, 0, 51, missing], [1, 1, 92, missing]]);
     assert_eq!(write(&book).unwrap(), dump);
 }
 
@@ -22,9 +22,9 @@ fn shared_case() {
 fn shared_book_by_hand() {
     let book = hex("0600 0101 01000000  0600 0501 00000000
         0600 1001 A0004401  0600 1001 A8004404
-        0200 1801  0400 2001 A030  0300 2301 01  0300 3001 01  0600 3101 04000000
+        0200 1801  0800 2001 A030 0100 0000  0300 2301 01  0300 3001 01  0600 3101 04000000
         0400 8001 4B01  0600 8301 00080000
-        0200 1801  0400 2001 A830  0300 2301 02  0300 5001 01  0600 9001 10000000
+        0200 1801  0800 2001 A830 0200 0000  0300 2301 02  0300 5001 01  0600 9001 10000000
         0600 9101 01000000  0600 9201 04000000  0600 9301 08000000");
     assert_eq!(read(&shared()).unwrap(), book);
 }
@@ -32,9 +32,9 @@ fn shared_book_by_hand() {
 #[test]
 fn shared_fields() {
     let book = read(&shared()).unwrap();
-    assert_eq!(field(&book, 0, 0x0123), Ok((46, 1)));
-    assert_eq!(field(&book, 0, 0x0131), Ok((56, 4)));
-    assert_eq!(field(&book, 1, 0x0150), Ok((93, 1)));
+    assert_eq!(field(&book, 0, 0x0123), Ok((50, 1)));
+    assert_eq!(field(&book, 0, 0x0131), Ok((60, 4)));
+    assert_eq!(field(&book, 1, 0x0150), Ok((101, 1)));
     // the second object has no iD, there is no third, and these kinds are no fields
     for (object, kind) in [(1, 0x0130), (2, 0x0123), (0, 0x0120), (0, 0x0101), (0, 0x01FF), (0, 0x10123)] {
         assert_eq!(field(&book, object, kind), Err((16, 0)));

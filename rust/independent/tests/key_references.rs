@@ -10,12 +10,12 @@ use independent::read::values;
 use independent::write::element::integer_contents;
 use independent::{field, links, write};
 
-/// The book of a `key` under this entry whose 0134 has this payload: 0130 is at 28, 0131 at 32, 0134 at 40.
+/// The book of a `key` under this entry whose 0134 has this payload: 0130 is at 32, 0131 at 36, 0134 at 44.
 fn book_of(entry: u8, payload: &[u8]) -> Vec<u8> {
     [
         hex("0600 0101 01000000  0600 0501 00000000"),
         record(0x0110, &[entry, 0x01]),
-        record(0x0120, &[entry, 0xA1]),
+        record(0x0120, &[entry, 0xA1, 0, 0, 4, 0]),
         hex("0200 3001  0600 3101 00000000"),
         record(KEY_REFERENCE, payload),
         hex("0400 A001 0500"),
@@ -36,7 +36,7 @@ fn minus_127_and_129() {
     let plus_129 = "19000200 A115 A013 A111 3000 3009 0400 030100 02020081 A1020500";
     for (directory, number) in [(minus_127, "81FFFFFF"), (plus_129, "81000000")] {
         let dump = hex(&["0A000100 3006020101030100", directory].concat());
-        let before = "0600 0101 01000000  0600 0501 00000000  0400 1001 A101  0400 2001 A1A1
+        let before = "0600 0101 01000000  0600 0501 00000000  0400 1001 A101  0800 2001 A1A1 0000 0400
             0200 3001  0600 3101 00000000";
         let book = hex(&[before, "0600 3401", number, "0400 A001 0500"].concat());
         assert_eq!(accepted(&dump), book);
@@ -165,7 +165,7 @@ fn in_files_and_records() {
         let class = tlv(0x30, &[hex("0400 030100"), hex(component)]);
         tlv(0x30, &[hex("3000"), class, hex("A109 3007 30020400 020100")])
     };
-    let book = hex("0600 0101 01000000  0600 0501 00000000  0600 1001 A0004401  0200 1801  0400 2001 A030
+    let book = hex("0600 0101 01000000  0600 0501 00000000  0600 1001 A0004401  0200 1801  0800 2001 A030 0100 0000
         0200 3001  0600 3101 00000000  0600 3401 80FFFFFF  0200 8001  0600 8301 00000000");
     assert_eq!(accepted(&filed(0xA0, &object("020180"))), book);
     refused(&filed(0xA0, &object("0202FF7F")), 7, 42);
@@ -180,10 +180,10 @@ fn in_files_and_records() {
 fn fields_and_links() {
     for (component, payload) in [("020181", "81FFFFFF"), ("02020081", "81000000")] {
         let book = accepted(&key(0xA0, &hex(component)));
-        assert_eq!(field(&book, 0, 0x0134), Ok((44, 4)));
-        assert_eq!(book[44..48], hex(payload));
+        assert_eq!(field(&book, 0, 0x0134), Ok((48, 4)));
+        assert_eq!(book[48..52], hex(payload));
         // the private key's empty iD, which no certificate answers
-        assert_eq!(links(&book).unwrap(), [[3, 0, 28, 4_294_967_295]]);
+        assert_eq!(links(&book).unwrap(), [[3, 0, 32, 4_294_967_295]]);
     }
 }
 
@@ -239,7 +239,7 @@ fn books_of_every_other_number() {
 #[test]
 fn flags_have_no_sign() {
     let book = accepted(&class(0xA1, &hex("0400 030500FFFFFFFF 030500FFFFFFFF 0201FF")));
-    assert_eq!(book[32..56], hex("0600 3101 FFFFFFFF  0600 3301 FFFFFFFF  0600 3401 FFFFFFFF"));
+    assert_eq!(book[36..60], hex("0600 3101 FFFFFFFF  0600 3301 FFFFFFFF  0600 3401 FFFFFFFF"));
 }
 
 #[test]

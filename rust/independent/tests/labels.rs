@@ -31,7 +31,10 @@ fn each(text: &[u8]) -> [(Vec<u8>, usize); 3] {
 fn each_book(text: &[u8]) -> [Vec<u8>; 3] {
     let version = hex("0600 0101 01000000");
     let flags = hex("0600 0501 00000000");
-    let object = hex("0400 1001 A701  0400 2001 A730");
+    // the object ends where its entry ends, which is the first of EF.OD
+    let object = with_common(&[tlv(0x0C, &[text.to_vec()])]);
+    let offset = tlv(0xA7, &[tlv(0xA0, &[object.clone()])]).len() - object.len();
+    let object = [hex("0400 1001 A701"), record(0x0120, &[0xA7, 0x30, 0, 0, offset as u8, 0])].concat();
     let rest = hex("0200 6001  0400 A001 0500");
     [
         [version.clone(), record(0x0103, text), flags.clone()].concat(),
@@ -175,12 +178,12 @@ fn fields_and_links() {
     let common = tlv(0x30, &[tlv(0x0C, &[most.clone().into()]), hex("040101")]);
     let object = tlv(0xA1, &[common, hex("3003040101"), hex("A1020500")]);
     let book = accepted(&inline(0xA8, &[object]));
-    // CIAInfo 16 bytes, 0110 6, 0120 6: 0121 is at 28 and has 1,024 bytes, then 0123, then 0150
-    assert_eq!(field(&book, 0, 0x0121), Ok((32, 1020)));
-    assert_eq!(book[32..1052], *most.as_bytes());
-    assert_eq!(field(&book, 0, 0x0123), Ok((1056, 1)));
-    assert_eq!(field(&book, 0, 0x0150), Ok((1061, 1)));
-    assert_eq!(links(&book).unwrap(), [[1, 0, 1052, 0]]);
+    // CIAInfo 16 bytes, 0110 6, 0120 10: 0121 is at 32 and has 1,024 bytes, then 0123, then 0150
+    assert_eq!(field(&book, 0, 0x0121), Ok((36, 1020)));
+    assert_eq!(book[36..1056], *most.as_bytes());
+    assert_eq!(field(&book, 0, 0x0123), Ok((1060, 1)));
+    assert_eq!(field(&book, 0, 0x0150), Ok((1065, 1)));
+    assert_eq!(links(&book).unwrap(), [[1, 0, 1056, 0]]);
 }
 
 #[test]

@@ -24,21 +24,21 @@ fn both_kinds() -> Vec<u8> {
          05000300024405")
 }
 
-/// Its book; the records with a row of the list are the 0123 at 70, the 0130 at 75 and the 0123 at 177.
+/// Its book; the records with a row of the list are the 0123 at 74, the 0130 at 79 and the 0123 at 189.
 fn both_kinds_book() -> Vec<u8> {
     hex("0600 0101 01000000  0600 0501 00000000
         0600 1001 A0004401  0600 1001 A4004402  0600 1001 A8004403  0600 1001 A7004404  0600 1001 A7004405
         0200 1901
-          0200 1A01  0400 2001 A030  0300 2301 01  0300 3001 01  0600 3101 04000000
+          0200 1A01  0800 2001 A030 0100 0200  0300 2301 01  0300 3001 01  0600 3101 04000000
             0400 8001 4B01  0600 8301 00080000  0500 0701 FF0200
           0200 1A01
           0200 1A01  0500 0701 000300
           0200 1A01  0500 0701 FF0100
-        0200 1801  0400 2001 A430  0300 4001 01  0400 8001 4331  0500 0701 000100
+        0200 1801  0800 2001 A430 0200 0000  0300 4001 01  0400 8001 4331  0500 0701 000100
         0200 1901
-          0200 1A01  0400 2001 A830  0300 2301 02  0300 5001 01  0600 9001 10000000
+          0200 1A01  0800 2001 A830 0300 0200  0300 2301 02  0300 5001 01  0600 9001 10000000
             0600 9101 01000000  0600 9201 04000000  0600 9301 08000000
-          0200 1A01  0400 2001 A8A1  0400 A001 0500  0500 0701 000100
+          0200 1A01  0800 2001 A8A1 0300 2100  0400 A001 0500  0500 0701 000100
         0200 1901
         0200 1801")
 }
@@ -49,17 +49,17 @@ fn both_kinds_and_back() {
     assert_eq!(dump.len(), 199);
     let book = accepted(&dump);
     assert_eq!(book, both_kinds_book());
-    assert_eq!(book.len(), 250);
+    assert_eq!(book.len(), 266);
 }
 
 #[test]
 fn both_kinds_listed() {
     let book = both_kinds_book();
     let missing = 4_294_967_295;
-    assert_eq!(links(&book).unwrap(), [[1, 0, 70, 2], [3, 0, 75, 1], [1, 2, 177, missing]]);
-    assert_eq!(field(&book, 0, 0x0183), Ok((98, 4)));
-    assert_eq!(field(&book, 2, 0x0193), Ok((215, 4)));
-    assert_eq!(field(&book, 3, 0x01A0), Ok((233, 2)));
+    assert_eq!(links(&book).unwrap(), [[1, 0, 74, 2], [3, 0, 79, 1], [1, 2, 189, missing]]);
+    assert_eq!(field(&book, 0, 0x0183), Ok((102, 4)));
+    assert_eq!(field(&book, 2, 0x0193), Ok((227, 4)));
+    assert_eq!(field(&book, 3, 0x01A0), Ok((249, 2)));
     for kind in [0x0107, 0x0119, 0x011A, 0x0150] {
         assert_eq!(field(&book, 3, kind), Err((16, 0)));
     }
@@ -232,8 +232,10 @@ fn book_with(records: &str) -> Vec<u8> {
     hex(&["0600 0101 01000000  0600 0501 00000000  0600 1001 A7004401", records].concat())
 }
 
-/// The records of a data container.
-const OBJECT: &str = "0400 2001 A730  0200 6001  0400 A001 0500";
+/// The records of a data container, of ten bytes on the card, that stands there in file 1.
+fn object(offset: u8) -> String {
+    format!("0800 2001 A730 0100 {offset:02X}00  0200 6001  0400 A001 0500")
+}
 
 #[test]
 fn books() {
@@ -246,11 +248,11 @@ fn books() {
         ("0200 1901 0200 1A01 0200 1A01", 4, "0000 0000".to_string()),
         ("0200 1801 0500 0701 000200", 3, "0000".to_string()),
         ("0200 1901 0200 1A01 0500 0701 000200", 4, "0200 0000".to_string()),
-        (&format!("0200 1801 {OBJECT} {OBJECT}"), 3, format!("{container} {container}")),
-        (&format!("0200 1901 0200 1A01 {OBJECT}"), 4, format!("0A00 {container}")),
-        (&format!("0200 1901 0200 1A01 0200 1A01 {OBJECT}"), 4, format!("0000 0A00 {container}")),
-        (&format!("0200 1901 0200 1A01 {OBJECT} 0500 0701 FF0100"), 4, format!("0B00 {container} FF")),
-        (&format!("0200 1901 0200 1A01 {OBJECT} 0200 1A01 0500 0701 FF0100"), 4, format!("0A00 {container} 0100 FF")),
+        (&format!("0200 1801 {} {}", object(0), object(10)), 3, format!("{container} {container}")),
+        (&format!("0200 1901 0200 1A01 {}", object(2)), 4, format!("0A00 {container}")),
+        (&format!("0200 1901 0200 1A01 0200 1A01 {}", object(4)), 4, format!("0000 0A00 {container}")),
+        (&format!("0200 1901 0200 1A01 {} 0500 0701 FF0100", object(2)), 4, format!("0B00 {container} FF")),
+        (&format!("0200 1901 0200 1A01 {} 0200 1A01 0500 0701 FF0100", object(2)), 4, format!("0A00 {container} 0100 FF")),
     ] {
         let dump = if kind == 3 { filed(0xA7, &hex(&file)) } else { linear(0xA7, &[hex(&file)]) };
         assert_eq!(accepted(&dump), book_with(records));
@@ -274,22 +276,22 @@ fn no_books() {
         "0200 1901 0300 1A01 00",
         "0200 1901 0400 1A01 0000",
         // an object or fill outside of the records
-        &format!("0200 1901 {OBJECT}"),
+        &format!("0200 1901 {}", object(0)),
         "0200 1901 0500 0701 000100",
-        &format!("0200 1901 {OBJECT} 0200 1A01"),
+        &format!("0200 1901 {} 0200 1A01", object(0)),
         "0200 1901 0500 0701 000100 0200 1A01",
         // two objects in one record, fill before the object, fill twice, of no bytes, of another byte
-        &format!("0200 1901 0200 1A01 {OBJECT} {OBJECT}"),
-        &format!("0200 1901 0200 1A01 0500 0701 000100 {OBJECT}"),
+        &format!("0200 1901 0200 1A01 {} {}", object(2), object(12)),
+        &format!("0200 1901 0200 1A01 0500 0701 000100 {}", object(3)),
         "0200 1901 0200 1A01 0500 0701 000100 0500 0701 000100",
         "0200 1901 0200 1A01 0500 0701 000100 0500 0701 FF0100",
         "0200 1901 0200 1A01 0500 0701 000000",
         "0200 1901 0200 1A01 0500 0701 010100",
         // a record inside an object; a record or a file of 16,382 or 65,536 bytes and more
-        "0200 1901 0200 1A01 0400 2001 A730 0200 1A01 0200 6001 0400 A001 0500",
+        "0200 1901 0200 1A01 0800 2001 A730 0100 0200 0200 1A01 0200 6001 0400 A001 0500",
         "0200 1901 0200 1A01 0500 0701 00FE3F",
         "0200 1901 0200 1A01 0500 0701 00FFFF 0200 1A01 0500 0701 00FFFF",
-        &format!("0200 1901 0200 1A01 {OBJECT} 0500 0701 00FFFF"),
+        &format!("0200 1901 0200 1A01 {} 0500 0701 00FFFF", object(2)),
         // an unknown kind
         "0200 1901 0200 1B01",
     ] {
@@ -302,12 +304,12 @@ fn no_books() {
 
 #[test]
 fn fields_of_records() {
-    // CIAInfo 16 bytes, 0110 8, 0119 4, 011A 4, 0120 6: 0160 is at 38; 01A0 42, 011A 48, 0120 52, 0121 58
+    // CIAInfo 16 bytes, 0110 8, 0119 4, 011A 4, 0120 10: 0160 is at 42; 01A0 46, 011A 52, 0120 56, 0121 66
     let labelled = with_common(&[hex("0C0141")]);
     let book = accepted(&linear(0xA7, &[part(&container()), part(&labelled)]));
-    assert_eq!(field(&book, 0, 0x0160), Ok((42, 0)));
-    assert_eq!(field(&book, 0, 0x01A0), Ok((46, 2)));
+    assert_eq!(field(&book, 0, 0x0160), Ok((46, 0)));
+    assert_eq!(field(&book, 0, 0x01A0), Ok((50, 2)));
     assert_eq!(field(&book, 0, 0x0121), Err((16, 0)));
-    assert_eq!(field(&book, 1, 0x0121), Ok((62, 1)));
+    assert_eq!(field(&book, 1, 0x0121), Ok((70, 1)));
     assert_eq!(field(&book, 0, 0x011A), Err((16, 0)));
 }

@@ -379,9 +379,9 @@ fn books() {
 #[test]
 fn none() {
     let book = accepted(&filed(0xA7, &container()));
-    // CIAInfo 16 bytes, 0110 with a path of two 8, 0118 4, 0120 6: 0160 is at 34
-    assert_eq!(field(&book, 0, 0x0160), Ok((38, 0)));
-    assert_eq!(field(&book, 0, 0x01A0), Ok((42, 2)));
+    // CIAInfo 16 bytes, 0110 with a path of two 8, 0118 4, 0120 10: 0160 is at 38
+    assert_eq!(field(&book, 0, 0x0160), Ok((42, 0)));
+    assert_eq!(field(&book, 0, 0x01A0), Ok((46, 2)));
     assert_eq!(field(&book, 0, 0x0121), Err((16, 0)));
     assert_eq!(field(&book, 1, 0x0160), Err((16, 0)));
     assert_eq!(field(&book, 0, 0x0118), Err((16, 0)));

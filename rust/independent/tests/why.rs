@@ -11,29 +11,29 @@ use independent::{links, why};
 const AUTH: &str = "040101";
 const CONDITION: &str = "3008 3006 030100 040101";
 
-/// An object of tag A1, which seals its type. In the book 0120 comes first, 6 bytes, and 01A0 last, 6 bytes; between
+/// An object of tag A1, which seals its type. In the book 0120 comes first, 10 bytes, and 01A0 last, 6 bytes; between
 /// them a 0123, 0127, 0130, 0140 or 0150 of one byte has 5, the 0125 before a 0127 and the 0131 behind a 0130 have 8.
 fn object(common: &str, class: &[u8]) -> Vec<u8> {
     tlv(0xA1, &[with(0x30, &hex(common)), with(0x30, class), hex("A1020500")])
 }
 
-/// A key: with nothing in common 25 bytes of the book, of which six stand before its 0130.
+/// A key: with nothing in common 29 bytes of the book, of which ten stand before its 0130.
 fn key(common: &str, id: &str) -> Vec<u8> {
     object(common, &[with(0x04, &hex(id)), hex("030100")].concat())
 }
 
-/// A certificate or a PIN: with nothing in common 17 bytes, of which six stand before its 0140 or 0150.
+/// A certificate or a PIN: with nothing in common 21 bytes, of which ten stand before its 0140 or 0150.
 fn bearer(common: &str, id: &str) -> Vec<u8> {
     object(common, &with(0x04, &hex(id)))
 }
 
-/// A data container, which has a 0160 of 4 bytes, or a PIN without 0150: with nothing in common 16 or 12 bytes.
+/// A data container, which has a 0160 of 4 bytes, or a PIN without 0150: with nothing in common 20 or 16 bytes.
 fn plain(common: &str) -> Vec<u8> {
     object(common, &[])
 }
 
 /// A card of these entries with their objects inside. In the book each 0110 has 6 bytes and the first is at 16, so that
-/// the first object is at 22 and what comes behind its 0120 at 28.
+/// the first object is at 22 and what comes behind its 0120 at 32.
 fn card(entries: &[(u8, Vec<Vec<u8>>)]) -> Vec<u8> {
     let entries = entries.iter().map(|(tag, objects)| tlv(*tag, &[tlv(0xA0, objects)]));
     with_od(&entries.collect::<Vec<_>>().concat())
@@ -58,16 +58,16 @@ fn no_rows(book: &[u8], from: u64) {
 
 #[test]
 fn shared_case() {
-    // the PIN's 0123 is at 84, its 0150 at 89; there is no certificate; 02 stands in that 0123 only
-    answers(&shared(), &[Met(89, 0x0150), NoObject, Nowhere]);
+    // the PIN's 0123 is at 92, its 0150 at 97; there is no certificate; 02 stands in that 0123 only
+    answers(&shared(), &[Met(97, 0x0150), NoObject, Nowhere]);
 }
 
 #[test]
 fn missing_unblocking_pin() {
-    // 0118 at 40: 0120, 0121 of 17, 0123 at 67, 0130 at 72, 0131, 0180 of 6, 0183 of 8
-    // 0118 at 99: 0120, 0121 of 25, 0140 at 134, 0180 of 6; 0118 at 145: 0120, 0121 of 17, 0123 at 172, 0150 at 177
+    // 0118 at 40: 0120, 0121 of 17, 0123 at 71, 0130 at 76, 0131, 0180 of 6, 0183 of 8
+    // 0118 at 103: 0120, 0121 of 25, 0140 at 142, 0180 of 6; 0118 at 153: 0120, 0121 of 17, 0123 at 184, 0150 at 189
     let dump = include_bytes!("../../../samples/missing-unblocking-pin.dump");
-    answers(dump, &[Met(177, 0x0150), Met(134, 0x0140), Nowhere]);
+    answers(dump, &[Met(189, 0x0150), Met(142, 0x0140), Nowhere]);
 }
 
 #[test]
@@ -75,33 +75,33 @@ fn links_1_and_2_elsewhere() {
     let asking = |before: (u8, Vec<Vec<u8>>)| {
         card(&[before, (0xA7, vec![plain(AUTH), plain(CONDITION)]), (0xA8, vec![bearer("", "02")])])
     };
-    // 0110 at 16 and 22; 0123 at 34, 0160, 01A0; 0120 at 49, 0125, 0127 at 63: each stands in the other's record
-    answers(&asking((0xA7, vec![])), &[Elsewhere(63, 0x0127), Elsewhere(34, 0x0123)]);
-    // a key or a certificate before them has its identifier at 28
+    // 0110 at 16 and 22; 0123 at 38, 0160, 01A0; 0120 at 53, 0125, 0127 at 71: each stands in the other's record
+    answers(&asking((0xA7, vec![])), &[Elsewhere(71, 0x0127), Elsewhere(38, 0x0123)]);
+    // a key or a certificate before them has its identifier at 32
     for entry in 0xA1..=0xA3 {
-        answers(&asking((entry, vec![key("", "01")])), &[Elsewhere(28, 0x0130); 2]);
+        answers(&asking((entry, vec![key("", "01")])), &[Elsewhere(32, 0x0130); 2]);
     }
     for entry in 0xA4..=0xA6 {
-        answers(&asking((entry, vec![bearer("", "01")])), &[Elsewhere(28, 0x0140); 2]);
+        answers(&asking((entry, vec![bearer("", "01")])), &[Elsewhere(32, 0x0140); 2]);
     }
     // a private key's states a link of another number, which is the first row
     let dump = asking((0xA0, vec![key("", "01")]));
-    answers(&dump, &[NoObject, Elsewhere(28, 0x0130), Elsewhere(28, 0x0130)]);
+    answers(&dump, &[NoObject, Elsewhere(32, 0x0130), Elsewhere(32, 0x0130)]);
 }
 
 #[test]
 fn link_3_elsewhere() {
-    // 0130 at 28, 0131, 01A0; 0110 at 47, 0140 at 59, 01A0; 0110 at 70, 0120 at 76, what comes behind that at 82
+    // 0130 at 32, 0131, 01A0; 0110 at 51, 0140 at 67, 01A0; 0110 at 78, 0120 at 84, what comes behind that at 94
     let with_third = |entry: u8, object: Vec<u8>| {
         card(&[(0xA0, vec![key("", "01")]), (0xA4, vec![bearer("", "02")]), (entry, vec![object])])
     };
     for entry in 0xA1..=0xA3 {
-        answers(&with_third(entry, key("", "01")), &[Elsewhere(82, 0x0130)]);
+        answers(&with_third(entry, key("", "01")), &[Elsewhere(94, 0x0130)]);
     }
-    answers(&with_third(0xA8, bearer("", "01")), &[Elsewhere(82, 0x0150)]);
+    answers(&with_third(0xA8, bearer("", "01")), &[Elsewhere(94, 0x0150)]);
     // a 0123, and behind 0125 a 0127, which have rows of their own
-    answers(&with_third(0xA7, plain(AUTH)), &[Elsewhere(82, 0x0123), NoObject]);
-    answers(&with_third(0xA7, plain(CONDITION)), &[Elsewhere(90, 0x0127), NoObject]);
+    answers(&with_third(0xA7, plain(AUTH)), &[Elsewhere(94, 0x0123), NoObject]);
+    answers(&with_third(0xA7, plain(CONDITION)), &[Elsewhere(102, 0x0127), NoObject]);
 }
 
 #[test]
@@ -112,12 +112,12 @@ fn the_same_link_is_not_shown() {
     answers(&card(&[(0xA7, vec![plain(AUTH); 2]), pin.clone()]), &[Nowhere; 2]);
     answers(&card(&[(0xA7, vec![plain(CONDITION); 2]), pin.clone()]), &[Nowhere; 2]);
     answers(&card(&[(0xA0, vec![key("", "01"); 2]), certificate.clone()]), &[Nowhere; 2]);
-    // 0120 at 22, 43, 64: the 0123 at 28 and 49 are passed over, 0125 at 70, 0127 at 78
+    // 0120 at 22, 47, 72: the 0123 at 32 and 57 are passed over, 0125 at 82, 0127 at 90
     let dump = card(&[(0xA7, vec![plain(AUTH), plain(AUTH), plain(CONDITION)]), pin]);
-    answers(&dump, &[Elsewhere(78, 0x0127), Elsewhere(78, 0x0127), Elsewhere(28, 0x0123)]);
-    // 0120 at 22, 47: the private 0130 at 28 and 53 are passed over, 0110 at 72, the secret key's 0130 at 84
+    answers(&dump, &[Elsewhere(90, 0x0127), Elsewhere(90, 0x0127), Elsewhere(32, 0x0123)]);
+    // 0120 at 22, 51: the private 0130 at 32 and 61 are passed over, 0110 at 80, the secret key's 0130 at 96
     let dump = card(&[(0xA0, vec![key("", "01"); 2]), (0xA3, vec![key("", "01")]), certificate]);
-    answers(&dump, &[Elsewhere(84, 0x0130); 2]);
+    answers(&dump, &[Elsewhere(96, 0x0130); 2]);
 }
 
 #[test]
@@ -126,55 +126,55 @@ fn the_lowest_before_or_behind() {
     let certificate = (0xA4, vec![bearer("", "01")]);
     let (asks, pin) = ((0xA7, vec![plain(AUTH)]), (0xA8, vec![plain("")]));
     let four = |first, second, third| card(&[first, second, third, pin.clone()]);
-    // 0130 at 28, 0131, 01A0; 0110 at 47, 0123 at 59, 0160, 01A0; 0110 at 74, 0140 at 86: one before and one behind
-    answers(&four(key("01"), asks.clone(), certificate.clone()), &[Elsewhere(28, 0x0130)]);
-    // 0140 at 28, 01A0; 0110 at 39, 0123 at 51
-    answers(&four(certificate.clone(), asks.clone(), key("01")), &[Elsewhere(28, 0x0140)]);
-    // 0123 at 28, 0160, 01A0; 0110 at 43, 0130 or 0140 at 55: both behind
-    answers(&four(asks.clone(), key("01"), certificate.clone()), &[Elsewhere(55, 0x0130)]);
-    answers(&four(asks.clone(), certificate.clone(), key("01")), &[Elsewhere(55, 0x0140)]);
-    // the 0130 at 55 has another value; 0131, 01A0; 0110 at 74, 0140 at 86
-    answers(&four(asks, key("02"), certificate), &[Elsewhere(86, 0x0140)]);
+    // 0130 at 32, 0131, 01A0; 0110 at 51, 0123 at 67, 0160, 01A0; 0110 at 82, 0140 at 98: one before and one behind
+    answers(&four(key("01"), asks.clone(), certificate.clone()), &[Elsewhere(32, 0x0130)]);
+    // 0140 at 32, 01A0; 0110 at 43, 0123 at 59
+    answers(&four(certificate.clone(), asks.clone(), key("01")), &[Elsewhere(32, 0x0140)]);
+    // 0123 at 32, 0160, 01A0; 0110 at 47, 0130 or 0140 at 63: both behind
+    answers(&four(asks.clone(), key("01"), certificate.clone()), &[Elsewhere(63, 0x0130)]);
+    answers(&four(asks.clone(), certificate.clone(), key("01")), &[Elsewhere(63, 0x0140)]);
+    // the 0130 at 63 has another value; 0131, 01A0; 0110 at 82, 0140 at 98
+    answers(&four(asks, key("02"), certificate), &[Elsewhere(98, 0x0140)]);
 }
 
 #[test]
 fn in_the_object_that_asks() {
-    // 0123 at 28, 0130 at 33, 0131, 01A0: a public key whose PIN has the key's identifier, and a private one
+    // 0123 at 32, 0130 at 37, 0131, 01A0: a public key whose PIN has the key's identifier, and a private one
     let pin = (0xA8, vec![plain("")]);
-    answers(&card(&[(0xA1, vec![key(AUTH, "01")]), pin.clone()]), &[Elsewhere(33, 0x0130)]);
+    answers(&card(&[(0xA1, vec![key(AUTH, "01")]), pin.clone()]), &[Elsewhere(37, 0x0130)]);
     let dump = card(&[(0xA0, vec![key(AUTH, "01")]), pin.clone(), (0xA4, vec![bearer("", "02")])]);
-    answers(&dump, &[Elsewhere(33, 0x0130), Elsewhere(28, 0x0123)]);
-    // 0123 at 28, 0140 at 33 in a certificate
-    answers(&card(&[(0xA4, vec![bearer(AUTH, "01")]), pin.clone()]), &[Elsewhere(33, 0x0140)]);
-    // 0123 at 28, 0125, 0127 at 41: a rule that names the guard
+    answers(&dump, &[Elsewhere(37, 0x0130), Elsewhere(32, 0x0123)]);
+    // 0123 at 32, 0140 at 37 in a certificate
+    answers(&card(&[(0xA4, vec![bearer(AUTH, "01")]), pin.clone()]), &[Elsewhere(37, 0x0140)]);
+    // 0123 at 32, 0125, 0127 at 45: a rule that names the guard
     let both = [AUTH, CONDITION].concat();
-    answers(&card(&[(0xA7, vec![plain(&both)]), pin]), &[Elsewhere(41, 0x0127), Elsewhere(28, 0x0123)]);
+    answers(&card(&[(0xA7, vec![plain(&both)]), pin]), &[Elsewhere(45, 0x0127), Elsewhere(32, 0x0123)]);
 }
 
 #[test]
 fn met() {
-    // 0130 at 28, 0131, 01A0; 0110 at 47; certificates at 53, 70, 87, their 0140 at 59, 76, 93: two rows, each its own
+    // 0130 at 32, 0131, 01A0; 0110 at 51; certificates at 57, 78, 99, their 0140 at 67, 88, 109: two rows, each its own
     let certificates = vec![bearer("", "01"), bearer("", "02"), bearer("", "01")];
-    answers(&card(&[(0xA0, vec![key("", "01")]), (0xA4, certificates)]), &[Met(59, 0x0140), Met(93, 0x0140)]);
-    // one in each entry: 0140 at 28, 51, 74, the key's 0130 at 97
+    answers(&card(&[(0xA0, vec![key("", "01")]), (0xA4, certificates)]), &[Met(67, 0x0140), Met(109, 0x0140)]);
+    // one in each entry: 0140 at 32, 59, 86, the key's 0130 at 113
     let entries = [0xA6, 0xA4, 0xA5].map(|entry| (entry, vec![bearer("", "01")]));
     let dump = card(&[&entries[..], &[(0xA0, vec![key("", "01")])]].concat());
-    answers(&dump, &[28, 51, 74].map(|offset| Met(offset, 0x0140)));
-    // 0150 at 28, 01A0; 0110 at 39, 0123 at 51, 0160, 01A0, and at 66 0120, 0125, 0127
+    answers(&dump, &[32, 59, 86].map(|offset| Met(offset, 0x0140)));
+    // 0150 at 32, 01A0; 0110 at 43, 0123 at 59, 0160, 01A0, and at 74 0120, 0125, 0127
     let dump = card(&[(0xA8, vec![bearer("", "01")]), (0xA7, vec![plain(AUTH), plain(CONDITION)])]);
-    answers(&dump, &[Met(28, 0x0150); 2]);
-    // 0123 at 28, 0150 at 33: an object may answer its own link
-    answers(&card(&[(0xA8, vec![bearer(AUTH, "01")])]), &[Met(33, 0x0150)]);
+    answers(&dump, &[Met(32, 0x0150); 2]);
+    // 0123 at 32, 0150 at 37: an object may answer its own link
+    answers(&card(&[(0xA8, vec![bearer(AUTH, "01")])]), &[Met(37, 0x0150)]);
 }
 
 #[test]
 fn met_before_elsewhere() {
-    // 0130 at 28, 0131, 01A0; 0110 at 47, 0140 at 59, 01A0; 0110 at 70, 0123 at 82, 0150 at 87
+    // 0130 at 32, 0131, 01A0; 0110 at 51, 0140 at 67, 01A0; 0110 at 78, 0123 at 94, 0150 at 99
     let dump = card(&[(0xA1, vec![key("", "01")]), (0xA4, vec![bearer("", "01")]), (0xA8, vec![bearer(AUTH, "01")])]);
-    answers(&dump, &[Met(87, 0x0150)]);
-    // 0123 at 28, 0130 at 33, 0131, 01A0; 0110 at 52, 0150 at 64, 01A0; 0110 at 75, 0140 at 87
+    answers(&dump, &[Met(99, 0x0150)]);
+    // 0123 at 32, 0130 at 37, 0131, 01A0; 0110 at 56, 0150 at 72, 01A0; 0110 at 83, 0140 at 99
     let dump = card(&[(0xA0, vec![key(AUTH, "01")]), (0xA8, vec![bearer("", "01")]), (0xA5, vec![bearer("", "01")])]);
-    answers(&dump, &[Met(64, 0x0150), Met(87, 0x0140)]);
+    answers(&dump, &[Met(72, 0x0150), Met(99, 0x0140)]);
 }
 
 #[test]
@@ -194,15 +194,15 @@ fn no_object_before_elsewhere() {
 
 #[test]
 fn objects_of_the_class() {
-    // a PIN without 0150 is one: 0123 at 28, 0160, 01A0; 0110 at 43, then the key's 0110 at 61, its 0130 at 73
+    // a PIN without 0150 is one: 0123 at 32, 0160, 01A0; 0110 at 47, then the key's 0110 at 69, its 0130 at 85
     let asks = (0xA7, vec![plain(AUTH)]);
     let pin = (0xA8, vec![plain("")]);
     answers(&card(&[asks.clone(), pin.clone()]), &[Nowhere]);
-    answers(&card(&[asks, pin, (0xA2, vec![key("", "01")])]), &[Elsewhere(73, 0x0130)]);
-    // so is the one that asks: 0123 at 28, 0125, 0127 at 41
+    answers(&card(&[asks, pin, (0xA2, vec![key("", "01")])]), &[Elsewhere(85, 0x0130)]);
+    // so is the one that asks: 0123 at 32, 0125, 0127 at 45
     answers(&card(&[(0xA8, vec![plain(AUTH)])]), &[Nowhere]);
     let both = [AUTH, CONDITION].concat();
-    answers(&card(&[(0xA8, vec![plain(&both)])]), &[Elsewhere(41, 0x0127), Elsewhere(28, 0x0123)]);
+    answers(&card(&[(0xA8, vec![plain(&both)])]), &[Elsewhere(45, 0x0127), Elsewhere(32, 0x0123)]);
     // and certificates of each of the three entries
     for entry in 0xA4..=0xA6 {
         answers(&card(&[(0xA0, vec![key("", "01")]), (entry, vec![bearer("", "02")])]), &[Nowhere]);
@@ -218,13 +218,13 @@ fn objects_of_the_class() {
 #[test]
 fn the_empty_identifier() {
     let asks = (0xA7, vec![plain("0400")]);
-    // 0123 at 28 has 4 bytes; a PIN without 0150, and one with another, have no empty one
+    // 0123 at 32 has 4 bytes; a PIN without 0150, and one with another, have no empty one
     answers(&card(&[asks.clone(), (0xA8, vec![plain("")])]), &[Nowhere]);
     answers(&card(&[asks.clone(), (0xA8, vec![bearer("", "00")])]), &[Nowhere]);
-    // 0160, 01A0; 0110 at 42, an empty 0150 or 0130 at 54
-    answers(&card(&[asks.clone(), (0xA8, vec![bearer("", "")])]), &[Met(54, 0x0150)]);
+    // 0160, 01A0; 0110 at 46, an empty 0150 or 0130 at 62
+    answers(&card(&[asks.clone(), (0xA8, vec![bearer("", "")])]), &[Met(62, 0x0150)]);
     let dump = card(&[asks, (0xA3, vec![key("", "")]), (0xA8, vec![plain("")])]);
-    answers(&dump, &[Elsewhere(54, 0x0130)]);
+    answers(&dump, &[Elsewhere(62, 0x0130)]);
 }
 
 #[test]
@@ -233,16 +233,16 @@ fn bytes_are_compared_whole() {
     let pin = (0xA8, vec![plain("")]);
     let keys = ["", "0101", "0100", "0001", "02", "81"].map(|id| key("", id)).to_vec();
     answers(&card(&[(0xA7, vec![plain(AUTH)]), (0xA1, keys), pin.clone()]), &[Nowhere]);
-    // 255 bytes: 0123 at 28 has 259; 0160, 01A0; 0110 at 297; 0130 at 309 has another last byte, then at 309 + 279
+    // 255 bytes: 0123 at 32 has 259; 0160, 01A0; 0110 at 301; 0130 at 317 has another last byte, then at 317 + 283
     let long = |last: &str| ["07".repeat(254), last.to_string()].concat();
     let asks = (0xA7, vec![plain(&["0481FF".to_string(), long("08")].concat())]);
     let keys = vec![key("", &long("09")), key("", &long("08"))];
-    answers(&card(&[asks, (0xA1, keys), pin]), &[Elsewhere(588, 0x0130)]);
+    answers(&card(&[asks, (0xA1, keys), pin]), &[Elsewhere(600, 0x0130)]);
 }
 
 #[test]
 fn other_records_do_not_count() {
-    // 01 as label, as path and in what is sealed: 0121, 0123 at 33, 0160 of an 04 inside, 01A0
+    // 01 as label, as path and in what is sealed: 0121, 0123 at 37, 0160 of an 04 inside, 01A0
     let container = object("0C0101 040101", &hex("040101"));
     // a certificate of tag 30 with a path of 01
     let certificate = tlv(0x30, &[hex("3000 3003040102"), hex("A107 3005 3003 040101")]);
@@ -255,29 +255,29 @@ fn other_records_do_not_count() {
 
 #[test]
 fn in_files_and_records() {
-    // 0110 8 and 6: a key inside at 30, its 0130 at 36, 0131, 01A0; 0119 at 55, 011A, 011A; 0120 at 67, 0123 at 73, 0150
+    // 0110 8 and 6: a key inside at 30, its 0130 at 40, 0131, 01A0; 0119 at 59, 011A, 011A; 0120 at 71, 0123 at 81, 0150
     let records = [part(&[]), part(&bearer(AUTH, "02"))].concat();
     let od = [hex("A806 3004 04024401"), tlv(0xA1, &[tlv(0xA0, &[key("", "01")])])].concat();
     let dump = [with_od(&od), record(4, &[hex("024401"), records].concat())].concat();
-    answers(&dump, &[Elsewhere(36, 0x0130)]);
-    // 0110 8, 0119 at 24, 011A at 28; 0120 at 32, 0123 at 38, 01A0 at 43; 011A at 49; 0120 at 53, 0150 at 59
-    answers(&linear(0xA8, &[part(&plain(AUTH)), part(&bearer("", "01"))]), &[Met(59, 0x0150)]);
-    // 0110 8, 0118 at 24; 0120 at 28, 0123 at 34, 01A0; 0120 at 45, 0150 at 51
-    answers(&filed(0xA8, &[plain(AUTH), bearer("", "01")].concat()), &[Met(51, 0x0150)]);
+    answers(&dump, &[Elsewhere(40, 0x0130)]);
+    // 0110 8, 0119 at 24, 011A at 28; 0120 at 32, 0123 at 42, 01A0 at 47; 011A at 53; 0120 at 57, 0150 at 67
+    answers(&linear(0xA8, &[part(&plain(AUTH)), part(&bearer("", "01"))]), &[Met(67, 0x0150)]);
+    // 0110 8, 0118 at 24; 0120 at 28, 0123 at 38, 01A0; 0120 at 49, 0150 at 59
+    answers(&filed(0xA8, &[plain(AUTH), bearer("", "01")].concat()), &[Met(59, 0x0150)]);
 }
 
 #[test]
 fn a_long_list() {
-    // or of 02 and of 01 254 times: 0125 at 28, 012B of 6 at 36, 0127 at 42 and each 5 on; 0160 at 1317, 01A0 at 1321
+    // or of 02 and of 01 254 times: 0125 at 32, 012B of 6 at 40, 0127 at 46 and each 5 on; 0160 at 1321, 01A0 at 1325
     let list = tlv(0xA2, &[hex("040102"), hex("040101").repeat(254)]);
     let rule = tlv(0x30, &[tlv(0x30, &[hex("030100"), list])]);
     let asks = tlv(0xA1, &[tlv(0x30, &[rule]), hex("3000 A1020500")]);
-    // 0110 at 1327, 0150 at 1339: 02 is met, 01 is nowhere
+    // 0110 at 1331, 0150 at 1347: 02 is met, 01 is nowhere
     let pin = (0xA8, vec![bearer("", "02")]);
-    let due = [vec![Met(1339, 0x0150)], vec![Nowhere; 254]].concat();
+    let due = [vec![Met(1347, 0x0150)], vec![Nowhere; 254]].concat();
     answers(&card(&[(0xA7, vec![asks.clone()]), pin.clone()]), &due);
-    // 0110 at 1350, 0123 at 1362, which for its part finds 01 in the second 0127, at 47
-    let due = [vec![Met(1339, 0x0150)], vec![Elsewhere(1362, 0x0123); 254], vec![Elsewhere(47, 0x0127)]].concat();
+    // 0110 at 1358, 0123 at 1374, which for its part finds 01 in the second 0127, at 51
+    let due = [vec![Met(1347, 0x0150)], vec![Elsewhere(1374, 0x0123); 254], vec![Elsewhere(51, 0x0127)]].concat();
     answers(&card(&[(0xA7, vec![asks]), pin, (0xA7, vec![plain(AUTH)])]), &due);
 }
 

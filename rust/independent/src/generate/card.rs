@@ -93,8 +93,11 @@ fn made(rng: &mut Rng, flaws: Vec<Flaw>) -> Card {
     let small = !about_cards && rng.chance(if flaws.is_empty() { 30 } else { 70 });
     let linear = flaws.contains(&Flaw::Second) || rng.chance(LINEAR);
     let about_links = flaws.is_empty() && rng.chance(LINKED);
+    let about_files = flaws.is_empty() && rng.below(200) == 0;
     let mut maker = Maker { rng, flaws, often: false, pool, own, taken: vec![], left, small, linear };
-    if about_links {
+    if about_files {
+        maker.crowd_of_files()
+    } else if about_links {
         maker.linked_card()
     } else if small {
         maker.small_card()

@@ -2,6 +2,7 @@
 
 pub mod bytes;
 pub mod card;
+mod crowd;
 mod fat;
 mod flaw;
 mod forms;
@@ -13,6 +14,7 @@ mod maker;
 pub mod node;
 mod numbers;
 mod object;
+pub mod object_places;
 mod openings;
 pub mod rng;
 mod sealed;
@@ -22,6 +24,7 @@ mod templates;
 mod templates_damage;
 mod text;
 mod tree;
+mod walk;
 
 use maker::{spare_maker, Maker};
 use node::{Card, Record};
@@ -146,8 +149,24 @@ fn damaged_fill(rng: &mut Rng) -> Vec<u8> {
     card.encode()
 }
 
-/// A damaged copy of a book.
+/// A damaged copy of an accepted book: in the numbers that tell where its objects stand, or elsewhere, and then those
+/// numbers are mostly repaired.
 pub fn damaged_book(rng: &mut Rng, book: &[u8]) -> Vec<u8> {
+    let mut all = node::split(book);
+    if rng.chance(object_places::percent(&all)) {
+        object_places::damage(rng, book, &mut all);
+        return node::join(&all);
+    }
+    let copy = damaged_elsewhere(rng, book);
+    if rng.chance(85) {
+        object_places::repaired(copy)
+    } else {
+        copy
+    }
+}
+
+/// A copy of a book that is damaged in anything, whatever that does to the numbers of its objects.
+fn damaged_elsewhere(rng: &mut Rng, book: &[u8]) -> Vec<u8> {
     let mut all = node::split(book);
     if rng.chance(openings::percent(&all)) {
         openings::damage(rng, &mut all);

@@ -16,6 +16,7 @@ pub struct PathEntry<'a> {
 impl<'a> Reader<'a> {
     /// Reads EF.OD with its fill and tells the entries that name a path.
     pub fn directory(&mut self, file: File) -> Result<Vec<PathEntry<'a>>, Refusal> {
+        self.from = file.from;
         let mut paths = Vec::new();
         let mut inside = Inside::new(self.dump, file.from, file.end);
         while inside.more() && !fill::begins(&inside) {
@@ -75,8 +76,10 @@ impl<'a> Reader<'a> {
         Ok(())
     }
 
-    /// A directory file; its dump kind says which of the two it is.
+    /// A directory file, which takes the next number; its dump kind says which of the two it is.
     pub fn file(&mut self, entry_tag: u8, file: File) -> Result<(), Refusal> {
+        self.files += 1;
+        self.from = file.from;
         if file.kind == 4 {
             self.linear_file(entry_tag, file)
         } else {

@@ -30,6 +30,10 @@ const LARGEST_DUMP: usize = 32_768;
 pub struct Reader<'a> {
     dump: &'a [u8],
     book: Vec<u8>,
+    /// How many directory files have begun: the number of the file that is being read, 0 being EF.OD's.
+    files: u16,
+    /// Where that file starts.
+    from: usize,
     /// How many objects have begun.
     objects: usize,
     /// Own authId of each authentication object that has one, with the object's place.
@@ -38,7 +42,7 @@ pub struct Reader<'a> {
 
 impl<'a> Reader<'a> {
     pub fn new(dump: &'a [u8]) -> Self {
-        Reader { dump, book: Vec::new(), objects: 0, own: Vec::new() }
+        Reader { dump, book: Vec::new(), files: 0, from: 0, objects: 0, own: Vec::new() }
     }
 }
 

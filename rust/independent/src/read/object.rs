@@ -19,8 +19,16 @@ impl Reader<'_> {
         if !matches!(object.tag, 0x30 | 0xA0..=0xA7) {
             return Err((TAG, object.at));
         }
-        self.record(0x0120, &[entry_tag, object.tag]);
+        self.opening(entry_tag, object);
         self.object_parts(entry_tag, object)
+    }
+
+    /// "Record 0120 gains a 2-byte file number (0 for EF.OD, then 1 upward in dump order) and a 2-byte offset of the
+    /// object inside that file." The offset counts all of the file's bytes, record lengths too.
+    fn opening(&mut self, entry_tag: u8, object: Element) {
+        let offset = (object.at - self.from) as u16;
+        let payload = [[entry_tag, object.tag], self.files.to_le_bytes(), offset.to_le_bytes()].concat();
+        self.record(0x0120, &payload);
     }
 
     fn object_parts(&mut self, entry_tag: u8, object: Element) -> Result<(), Refusal> {

@@ -24,7 +24,7 @@ pub fn write(book: &[u8]) -> Result<Vec<u8>, Refusal> {
 }
 
 /// The only dump that this book can have; none if its records are in no possible order.
-fn compose(book: &[u8]) -> Option<Vec<u8>> {
+pub(crate) fn compose(book: &[u8]) -> Option<Vec<u8>> {
     let mut records = Records::of(book)?;
     let info = info(&mut records)?;
     let (directory, paths) = directory(&mut records)?;
@@ -118,7 +118,7 @@ fn filled(records: &mut Records, tag: u8) -> Option<Vec<u8>> {
     Some(bytes)
 }
 
-/// All objects that follow here.
+/// All objects that follow here. Where a 0120 says that its object stands is not looked at; the reader will tell.
 fn objects(records: &mut Records, entry_tag: u8) -> Option<Vec<u8>> {
     let mut all = Vec::new();
     while let Some(payload) = records.take(0x0120) {

@@ -5,10 +5,10 @@ use Rattle.files.proofs.holder.objects.Statement.{statement}
 use Rattle.files.proofs.holder.objects.Tie as tie
 
 abbrev Inv-loop : tie.InvT-loop
-Inv-loop s x entry k end at out₀ o marks₀ j₀ n₀ p₀ out marks j n p = Objects s x entry out₀ out marks₀ marks end at o k j n p
+Inv-loop s x site entry k end at out₀ o marks₀ j₀ n₀ p₀ out marks j n p = Objects s x site entry out₀ out marks₀ marks end at o k j n p
 
 abbrev μ-loop : tie.MeasureT-loop
-μ-loop s x entry k end at out₀ o marks₀ j₀ n₀ p₀ out marks j n p = end - n
+μ-loop s x site entry k end at out₀ o marks₀ j₀ n₀ p₀ out marks j n p = end - n
 
 pub objects-spec : {M : Type 1} → statement M
 objects-spec =

@@ -8,10 +8,8 @@ put-behind-spec =
     tie.close (tie.spec
     (λ c. search needs)  -- sub-n
     (λ c. search needs)  -- add-n
-    (λ c. search needs)  -- cast-put-start
-    (λ c κs. search needs)  -- put-start-requires
-    (λ c κs. search needs)  -- put-byte-requires
-    (λ c κs. search needs)  -- put-byte-requires-2
+    (λ c. search needs)  -- cast-put-front
+    (λ c κs. search needs)  -- put-front-requires
     (λ c κs. search needs)  -- put-part-requires
     (λ c. search needs)  -- same-length
     (λ c. search (record-behind, needs)))  -- returns

@@ -6,8 +6,6 @@ use Rattle.objects.proofs.records.put_two.Tie as tie
 pub put-two-spec : {M : Type 1} → statement M
 put-two-spec =
     tie.close (tie.spec
-    (λ c κs. search needs)  -- put-start-requires
-    (λ c κs. search needs)  -- put-byte-requires
-    (λ c κs. search needs)  -- put-byte-requires-2
+    (λ c κs. search needs)  -- put-front-requires
     (λ c. search needs)  -- same-length
     (λ c. search (record-two, needs)))  -- returns

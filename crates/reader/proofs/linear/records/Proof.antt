@@ -6,17 +6,17 @@ use Rattle.reader.proofs.linear.records.Statement.{statement}
 use Rattle.reader.proofs.linear.records.Tie as tie
 
 abbrev Inv-loop : tie.InvT-loop
-Inv-loop s entry k end at out₀ o marks₀ j₀ n₀ p₀ out marks j n p = Records s entry out₀ out marks₀ marks end at o k j n p
+Inv-loop s site entry k end at out₀ o marks₀ j₀ n₀ p₀ out marks j n p = Records s site entry out₀ out marks₀ marks end at o k j n p
 
 abbrev μ-loop : tie.MeasureT-loop
-μ-loop s entry k end at out₀ o marks₀ j₀ n₀ p₀ out marks j n p = end - n
+μ-loop s site entry k end at out₀ o marks₀ j₀ n₀ p₀ out marks j n p = end - n
 
 pub records-spec : {M : Type 1} → statement M
 records-spec =
     tie.close (tie.spec
     Inv-loop
     μ-loop
-    (λ c. records-start _ _ _ _ _ (λ i. omega (arith, c .before .before .shared-slice-known .given i)) (search needs) (search needs) (search needs) (search needs) (search needs) (search needs))  -- loop-holds
+    (λ c. records-start _ _ _ _ _ _ (λ i. omega (arith, c .before .before .shared-slice-known .given i)) (search needs) (search needs) (search needs) (search needs) (search needs) (search needs))  -- loop-holds
     (λ c. search (records-word, needs))  -- add-e
     (λ c κs. search (records-word, needs))  -- word-requires
     (λ c. search (records-end, needs))  -- add-e-2
