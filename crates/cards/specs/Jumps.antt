@@ -1,5 +1,5 @@
 -- Item 8 of document 02, "Take us to the bytes": in the file of the number that an object's 0120 tells, at the offset that it tells, stands the object's whole element.
-use Prim.Native.Nat.{ℕ, _+_, _-_}
+use Prim.Native.Nat.{ℕ, _+_, _-_, _<_, _≤_}
 use mathlib.Core.List.{List, [], _∷_, _++_, map, append-assoc, append-nil, List·Memᴰ, List·Memᴰ·head, List·Memᴰ·tail, List·Memᴰ·not-nil, List·Memᴰ·cases-cons}
 use mathlib.Core.Logic.{_⊎_, inl, inr, ⊎-elim}
 use mathlib.Core.Option.{none, some}
@@ -7,10 +7,12 @@ use mathlib.Core.Path.{_≡_, refl, sym, ap, subst, _∙_}
 use native.Mathlib.Omega.{arith}
 use lib.ListN.{length, length-append}
 use Rattle.elements.specs.Length.{tagBytes, shortest, wrap}
+use Rattle.elements.specs.Lists.{Bytes}
 use Rattle.elements.specs.Put.{le16}
 use Rattle.elements.specs.Record.{recordBytes}
 use Rattle.rules.specs.Grammar.{Element, low, elementBytes, Where, here, siteOf, opening, origin, _on_, into, each, flat, one, AllMeet, fill}
-use Rattle.rules.specs.Files.{Name}
+use Rattle.rules.specs.Reading.{Rec}
+use Rattle.rules.specs.Files.{Name, accepted, readDump}
 use Rattle.rules.specs.Layouts as layouts
 use Rattle.rules.specs.Entries as entries
 use Rattle.cards.specs.Card as card
@@ -21,6 +23,7 @@ use Rattle.rules.specs.FileLayouts as filing
 use Rattle.cards.specs.Card.{Card, Object, Meets, dumpOf, bookOf, recordsOf, front, behind, objectsOf}
 use Rattle.cards.specs.Blocks.{records-are, behind-inner}
 use Rattle.cards.specs.CardKinds.{inner-pays, card-pays}
+use Rattle.cards.specs.DumpLaws.{accepted-card}
 
 -- b stands in d, behind p bytes
 pub record Stands (d : List ℕ) (p : ℕ) (b : List ℕ) : Type 0 where
@@ -263,6 +266,44 @@ jumps c =
 pub jump : (c : Card) → Meets c → {o : Object} → List·Memᴰ o (objectsOf c) → Jump c o
 jump c m i = all-of (λ o. Tagged o → Jump c o) (objectsOf c) (jumps c) i (all-of Tagged (objectsOf c) (tagged c m) i)
 
+-- ---- two bytes hold the number, and two the offset
+stands-long : {d b : List ℕ} {p : ℕ} → Stands d p b → p ≤ length d
+stands-long {d} {b} m = rw (m .is) (omega (arith, m .behind, length-append (m .before) (b ++ m .after)))
+
+file-size : (n : ℕ) (k : Name) (f : card.file n k .Of) → card.file n k .Meets f → length (bytesIn (k .tag) f) ≤ 16383
+file-size n k (inl x) m = m .3
+file-size n k (inr x) m = m .3
+
+files-fit : (n at : ℕ) (ms : List Name) (x : card.files n ms .Of) → card.files n ms .Meets x → AllMeet (λ f. (f .number ≤ n + length (card.files n ms .bytes x)) × (length (f .bytes) ≤ 16383)) (filed n at ms x)
+unfolding card.files filed
+files-fit n at [] x m = tt
+files-fit n at (k ∷ ms) (f, x) m =
+    let b = card.file n k .bytes f in
+    let l = length-append b (card.files (n + 1) ms .bytes x) in
+    let s = stands-long (file-framed n k f) in (
+      (omega arith, file-size n k f (m .0)),
+      all-map (λ g z. (let e = z .0 in omega arith, z .1)) (filed (n + 1) (at + length b) ms x) (files-fit (n + 1) (at + length b) ms x (m .1)),
+    )
+
+all-fit : (c : Card) → Meets c → AllMeet (λ f. (f .number < 65536) × (length (f .bytes) ≤ 16383)) (filesOf c)
+all-fit c m =
+    let d = card.efDir .bytes (c .dir) in
+    let i = recordBytes 1 (card.cia .bytes (c .info)) in
+    let o = recordBytes 2 (card.od .bytes (c .main)) in
+    let ms = card.namesOf (c .main) in
+    let w = card.files 1 ms .bytes (c .dirs) in
+    let l = length-append d (i ++ (o ++ w)) in
+    let k = length-append i (o ++ w) in
+    let j = length-append o w in
+    let s = m .dump-size in (
+      (omega arith, m .main-size),
+      all-map (λ f z. (let e = z .0 in omega arith, z .1)) (filed 1 (mainAt c + length o) ms (c .dirs)) (files-fit 1 (mainAt c + length o) ms (c .dirs) (m .dirs)),
+    )
+
+-- so what 0120 tells is the file's number and the offset themselves
+pub jump-fits : (c : Card) → Meets c → {o : Object} (j : Jump c o) → (j .file .number < 65536) × (j .offset < 65536)
+jump-fits c m j = let z = all-of (λ f. (f .number < 65536) × (length (f .bytes) ≤ 16383)) (filesOf c) (all-fit c m) (j .there) in (z .0, omega (arith, z .1, stands-long (j .in-file)))
+
 -- ---- and the book's 0120 are those of the card's objects, in turn
 own-told : (o : Object) → pays 0x0120 (recordsOf o) ≡ front o ∷ []
 unfolding pays
@@ -285,3 +326,15 @@ all-told c =
     let d = card.efDir .book origin (c .dir) in
     let e = card-pays 0x0120 (λ o. front o ∷ []) own-told refl refl (refl, refl, refl) (c .main) (card.namesOf (c .main)) (c .dirs) in
     pays-append 0x0120 (a ++ b) d ∙ rw (pays-append 0x0120 a b, lacks 0x0120 layouts.cia tt origin (c .info), e, dir-told (c .dir), append-nil (flat (λ o. front o ∷ []) (objectsOf c))) (fronts (objectsOf c))
+
+-- ---- so of a dump that is accepted
+among-map : {A B : Type 0} (f : A → B) (xs : List A) {y : B} → List·Memᴰ y (map f xs) → (x : A) × List·Memᴰ x xs × (y ≡ f x)
+among-map f [] i = absurd (List·Memᴰ·not-nil i)
+among-map f (x ∷ xs) i = ⊎-elim (λ e. (x, List·Memᴰ·head refl, e)) (λ j. let w = among-map f xs j in (w .0, List·Memᴰ·tail (w .1), w .2)) (List·Memᴰ·cases-cons i)
+
+-- each 0120 of its book is an object's, which stands there in the dump
+pub jump-read : (d : List ℕ) (rs : List Rec) → Bytes d → readDump d ≡ accepted rs → {p : List ℕ} → List·Memᴰ p (pays 0x0120 rs) → (c : Card) × (o : Object) × (dumpOf c ≡ d) × (bookOf c ≡ rs) × (p ≡ front o) × Jump c o
+jump-read d rs bytes e {p} i =
+    let k = accepted-card d rs bytes e in
+    let w = among-map front (objectsOf (k .it)) (subst (λ (l : List (List ℕ)). List·Memᴰ p l) (ap (λ (b : List Rec). pays 0x0120 b) (sym (k .book)) ∙ all-told (k .it)) i) in
+    (k .it, w .0, k .dump, k .book, w .2, jump (k .it) (k .meets) (w .1))
