@@ -1,4 +1,6 @@
 // The five services for C and Rust: numbers, slices, and a number lent for the length or place.
+#![tactic(auto)]
+
 ghost use Rattle.layouts.specs.Service.{ReadTold, WriteTold};
 ghost use Rattle.links.specs.Serving.{ListTold};
 ghost use Rattle.adarbukoi.specs.Exports.{Told, Exported, PlaceSaid, FieldExported, WhySaid, WhyExported};

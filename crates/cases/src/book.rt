@@ -123,7 +123,7 @@ pub fn back(d: &[u8]) {
 }
 
 // What became of the changed books.
-#[derive(Drop)]
+#[derive(Clone, Copy)]
 struct Tally {
     changed: usize,
     refused: usize,

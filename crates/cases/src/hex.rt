@@ -15,7 +15,7 @@ fn digit(c: u8) -> u8
 }
 
 // A number, and where the text goes on.
-#[derive(Drop)]
+#[derive(Clone, Copy)]
 pub struct Number {
     pub value: usize,
     pub next: usize,
@@ -71,7 +71,7 @@ pub fn hexadecimal(s: &[u8], from: usize) -> Number
 
 // How far a text is read: where it goes on, how many bytes there are, where those start that *N would repeat, and where those of the group that is
 // open; `fine` if it is a case up to here.
-#[derive(Drop)]
+#[derive(Clone, Copy)]
 struct Text {
     fine: bool,
     next: usize,

@@ -1,4 +1,6 @@
 // Runs the cases of `stdin` through the element layer and the five services, and prints each answer beside its case.
+#![tactic(auto)]
+
 mod book;
 mod dump;
 mod element;

@@ -12,6 +12,7 @@ reversed_small b = omega arith
 -- k bytes weigh less than 256 to the k
 pub weigh_small : (k : ℕ) (l : List ℕ) → length l ≤ k → weigh l < 256 ^ k
 unfolding weigh
+weigh_small Prim.Native.Nat.zero (x ∷ l) h = elim h [ ]
 weigh_small k [] h = one-le-pow k 256 (omega arith)
 weigh_small (suc k) (x ∷ l) h = omega (arith, reversed_small x, weigh_small k l (omega arith))
 

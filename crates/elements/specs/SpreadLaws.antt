@@ -30,6 +30,7 @@ spread_small n w h = small w n w h
 -- any other is its last byte after the bytes of what is before
 pub spread_more : (n : Bool) (w : ℕ) → 128 ≤ w → spread n w ≡ spread n (w / 256) ++ (digit n (w % 256) ∷ [])
 unfolding spread
+spread_more n zero h = elim h [ ]
 spread_more n (suc w) h = rw (← bound w (suc w / 256) n (suc w / 256) (omega arith) (omega arith)) (more w n (suc w) h)
 
 -- k + 1 bytes hold what is below 128 times 256 to the k

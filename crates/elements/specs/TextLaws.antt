@@ -178,6 +178,7 @@ v4 b x y z = b * 262144 + x * 4096 + y * 64 + z - 0x3c82080
 
 -- the bytes of a character are those of a scalar value, row by row of the table
 decoded : {b : ℕ} {d : Due} {bs : List ℕ} → Among b d rows → Tails d.more d.low d.high bs → Encoded (b ∷ bs)
+decoded {b = b} {d = d} {bs = bs} (later (later (later (later (later (later (later (later (later x99))))))))) _ = elim x99 [ ]
 decoded {b} (here p q) end = of1 b q
 decoded {b} (later (here p q)) (tail x f g end) = of2 b x (b * 64 + x - 0x3080) (omega arith) (omega arith)
 decoded {b} (later (later (here p q))) (tail x f g (tail y i j end)) = of3 b x y (v3 b x y) (omega arith) (omega arith) (below (omega arith))

@@ -2,7 +2,7 @@ ghost use Rattle.std.specs.Prelude.{◌≡◌};
 ghost use Rattle.elements.specs.Faults.{number_of};
 
 // Why an input is refused: a name for each reason that documents 01 and 02 give, in the order of their numbers.
-#[derive(Drop)]
+#[derive(Clone, Copy)]
 pub enum Fault {
     // 1: the dump is over 32,768 bytes
     DumpSize,

@@ -1,4 +1,6 @@
 // The DER element layer of document 01 ("Elements"): what an element is, what its contents say, and the way back.
+#![tactic(auto)]
+
 mod answer;
 mod bits;
 mod boolean;

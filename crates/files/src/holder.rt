@@ -8,7 +8,7 @@ use objects::{Many, Part, object_at, put_bare};
 use rules::{Site, store};
 
 // What holds objects: a list in EF.OD, a transparent file, a record of a record file.
-#[derive(Drop)]
+#[derive(Clone, Copy)]
 pub enum Holder {
     List,
     File,

@@ -1,4 +1,6 @@
 // What is inside a dump's files, read into its records: CIAInfo, EF.OD's entries, objects, fill; and what is found by going over the records of a book.
+#![tactic(auto)]
+
 mod answer;
 mod cia;
 mod entry;

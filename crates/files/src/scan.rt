@@ -6,14 +6,14 @@ ghost use Rattle.files.specs.Scan.{Holds, AgainTold, IdsTold, NameTold, Whole, S
 use rules::{is_name, same_bytes, word};
 
 // Whether an own authId is repeated: the place of the object that does.
-#[derive(Drop)]
+#[derive(Clone, Copy)]
 pub enum Clash {
     At(usize),
     None,
 }
 
 // What a record may bear that must differ from record to record: the path that an entry names, an own authId.
-#[derive(Drop)]
+#[derive(Clone, Copy)]
 enum Key {
     Path,
     Own,

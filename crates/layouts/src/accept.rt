@@ -9,7 +9,7 @@ use rules::{Outcome, same_bytes};
 use writer::render_into;
 
 // The candidate of a book: how many bytes it has if it has the book; or no dump has it.
-#[derive(Drop)]
+#[derive(Clone, Copy)]
 pub enum Candidate {
     Dump(usize),
     None,

@@ -9,7 +9,7 @@ use layouts::is_book;
 use rules::record_end;
 
 // Where a field's payload is, its book offset and length; or a refusal and its place.
-#[derive(Drop)]
+#[derive(Clone, Copy)]
 pub enum Place {
     At(usize, usize),
     Refused(Fault, usize),

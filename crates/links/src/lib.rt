@@ -1,4 +1,6 @@
 // Demand 3: the links that a book's objects state, and its fields.
+#![tactic(auto)]
+
 mod chains;
 mod fields;
 mod index;

@@ -3,7 +3,7 @@ ghost use Rattle.std.specs.Prelude.{◌≤◌};
 
 use rules::same_bytes;
 
-#[derive(Drop)]
+#[derive(Clone, Copy)]
 pub enum Question {
     List,
     Whys,

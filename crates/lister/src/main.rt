@@ -4,6 +4,8 @@
 //   lister why      the list, with the answer of why behind each row that is missing
 //   lister why ROW  that answer of one row
 //   lister where    where each object stands
+#![tactic(auto)]
+
 mod ask;
 mod places;
 mod show;

@@ -1,4 +1,6 @@
 // The parts inside a dump's files, made from their records: components, conditions, whole objects.
+#![tactic(auto)]
+
 mod leaf;
 mod made;
 mod make_common;

@@ -5,7 +5,7 @@ ghost use Rattle.makers.specs.Making.{Moved, Opened, Ended, Closed};
 use elements::put_header;
 
 // Bytes that were made: where the next record starts, and where they end; or they are too long for a dump.
-#[derive(Drop)]
+#[derive(Clone, Copy)]
 pub enum Made {
     Took(usize, usize),
     Long,

@@ -1,4 +1,6 @@
 // The parts inside a dump's files, read into their records: components, conditions, whole objects.
+#![tactic(auto)]
+
 mod class;
 mod common;
 mod condition;

@@ -5,21 +5,21 @@ use elements::{Fault, Head};
 use rules::Need;
 
 // A part that was read: the next place in the dump and in the book, or a refusal and its place.
-#[derive(Drop)]
+#[derive(Clone, Copy)]
 pub enum Part {
     Took(usize, usize),
     Fails(Fault, usize),
 }
 
 // Parts that were counted: the next place in the dump and in the book, and how many; or a refusal and its place.
-#[derive(Drop)]
+#[derive(Clone, Copy)]
 pub enum Many {
     Took(usize, usize, usize),
     Fails(Fault, usize),
 }
 
 // Whether a component stands where it is due: from where to where its contents are; or a refusal and its place.
-#[derive(Drop)]
+#[derive(Clone, Copy)]
 pub enum Due {
     Here(usize, usize),
     Absent,

@@ -86,7 +86,7 @@ fn read_parts(
 }
 
 // The files that every dump has: where CIAInfo's starts and ends, and EF.OD's; or a refusal and its place.
-#[derive(Drop)]
+#[derive(Clone, Copy)]
 pub enum Heads {
     Are(usize, usize, usize, usize),
     Broken(Fault, usize),

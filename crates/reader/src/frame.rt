@@ -6,21 +6,21 @@ use elements::Fault;
 use rules::word;
 
 // A record of the dump: its kind, and from where to where stands what is in it; or a refusal and its place.
-#[derive(Drop)]
+#[derive(Clone, Copy)]
 pub enum Span {
     From(usize, usize, usize),
     No(Fault, usize),
 }
 
 // A file of the dump: its kind, where its path starts, where the file starts and ends; or a refusal and its place.
-#[derive(Drop)]
+#[derive(Clone, Copy)]
 pub enum Framed {
     File(usize, usize, usize, usize),
     Broken(Fault, usize),
 }
 
 // Whether every record from a place on is framed well; or a refusal and its place.
-#[derive(Drop)]
+#[derive(Clone, Copy)]
 pub enum Chain {
     Sound,
     Unsound(Fault, usize),

@@ -8,7 +8,7 @@ use files::next_name;
 use rules::{same_bytes, word};
 
 // Whether the files follow EF.OD; or a refusal and its place.
-#[derive(Drop)]
+#[derive(Clone, Copy)]
 pub enum Followed {
     Fine,
     Wrong(Fault, usize),

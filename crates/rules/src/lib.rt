@@ -1,4 +1,6 @@
 // The rules of document 01: what a dump means, its book and the way back, as definitions with their laws and worked cases; beside them the constant tables.
+#![tactic(auto)]
+
 mod book;
 mod bytes;
 mod class;

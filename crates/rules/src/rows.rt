@@ -6,7 +6,7 @@ use crate::table::{Need, Row, Sequence};
 use elements::Form;
 
 // A row of a table, in the order of the definitions: tag, kind, form, need, low, high.
-#[derive(Drop)]
+#[derive(Clone, Copy)]
 struct Line(u8, u16, Form, Need, i32, i32);
 
 // CIAInfo

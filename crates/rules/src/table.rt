@@ -1,7 +1,7 @@
 use elements::Form;
 
 // A component is required ("?" is missing), optional ("?"), or has a default.
-#[derive(Drop)]
+#[derive(Clone, Copy)]
 pub enum Need {
     Required,
     Optional,
@@ -10,7 +10,7 @@ pub enum Need {
 
 // A component of a sequence: its tag, its record's kind, its form, whether it must be there, and its bounds. What they bound is what the form
 // tells: a number, how many bytes octets are, how many characters a text is.
-#[derive(Drop)]
+#[derive(Clone, Copy)]
 pub struct Row {
     pub tag: u8,
     pub kind: u16,
@@ -21,7 +21,7 @@ pub struct Row {
 }
 
 // The sequences whose components stand in tables.
-#[derive(Drop)]
+#[derive(Clone, Copy)]
 pub enum Sequence {
     Info,
     Common,
@@ -39,7 +39,7 @@ pub enum Sequence {
 }
 
 // What the objects of an EF.OD entry are.
-#[derive(Drop)]
+#[derive(Clone, Copy)]
 pub enum Class {
     Keys,
     Certificates,
@@ -48,7 +48,7 @@ pub enum Class {
 }
 
 // What stands in an object's type element.
-#[derive(Drop)]
+#[derive(Clone, Copy)]
 pub enum ObjectType {
     PrivateKey,
     Certificate,
@@ -57,7 +57,7 @@ pub enum ObjectType {
 }
 
 // What a condition is.
-#[derive(Drop)]
+#[derive(Clone, Copy)]
 pub enum Sort {
     Always,
     Identifier,

@@ -7,7 +7,7 @@ ghost use Rattle.why.specs.Whys.{MetAt, UnmetAt};
 use elements::Fault;
 
 // "met, with the book offset of the answering identifier; no object of the right class at all; the value stands in a record .., with the lowest such book offset and its kind; or it stands in no such record"; or a refusal and its place.
-#[derive(Drop)]
+#[derive(Clone, Copy)]
 pub enum Why {
     Met(usize, u32),
     NoObject,

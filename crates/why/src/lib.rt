@@ -1,4 +1,6 @@
 // Item 7 of document 02: why is this link missing?
+#![tactic(auto)]
+
 mod answer;
 mod stands;
 mod whys;
