@@ -303,16 +303,39 @@ one_of_renders {P} {Q} {q} {p} {L} {M} f g d e a = record { renders = made; begi
 -- the same of elements
 pub or_renders : (I J : Item) {q p : Renderer} {L M : Look} → Renders (one I) q L → Renders (one J) p M → T (not L.empty) → T (not M.empty) → T (avoids M.first L.first) →
     Renders (one (I or J)) (either L.first q p) (join_look L M)
-or_renders I J f g d e a =
-    let r = one_of_renders f g d e a in
-    record {
-      renders = λ v x. elim x [ inl i ↦ r.renders v (inl i) | inr j ↦ r.renders v (inr j) ];
-      begins = λ v x. elim x [ inl i ↦ r.begins v (inl i) | inr j ↦ r.begins v (inr j) ];
-      bound = λ v x. elim x [ inl i ↦ r.bound v (inl i) | inr j ↦ r.bound v (inr j) ];
-      laid = λ v x. elim x [ inl i ↦ r.laid v (inl i) | inr j ↦ r.laid v (inr j) ];
-      tells = λ u v x y. elim x [ inl i ↦ elim y [ inl j ↦ r.tells u v (inl i) (inl j) | inr j ↦ r.tells u v (inl i) (inr j) ] | inr i ↦ elim y [ inl j ↦ r.tells u v (inr i) (inl j) | inr j ↦ r.tells u v (inr i) (inr j) ] ];
-      moved = λ v n x. elim x [ inl i ↦ r.moved v n (inl i) | inr j ↦ r.moved v n (inr j) ];
-    }
+or_renders I J {q} {p} {L} {M} f g d e a = record { renders = made; begins = beginning; bound = bounded; laid = lying; tells = telling; moved = moving }
+  where
+    K : Part
+    K = one (I or J)
+
+    r : Renders (one_of (one I) (one J)) (either L.first q p) (join_look L M)
+    r = one_of_renders f g d e a
+
+    made : (v : Where) (x : K.Of) → K.Meets x → (w : List Rec) → Fresh (L.stop ++ M.stop) w → either L.first q p (K.book v x ++ w) ≡ gives (K.bytes x) w
+    made v (inl i) = r.renders v (inl i)
+    made v (inr j) = r.renders v (inr j)
+
+    beginning : (v : Where) (x : K.Of) → K.Meets x → Begins (L.first ++ M.first) (L.empty || M.empty) (K.book v x)
+    beginning v (inl i) = r.begins v (inl i)
+    beginning v (inr j) = r.begins v (inr j)
+
+    bounded : (v : Where) (x : K.Of) → K.Meets x → size (K.book v x) ≤ 4 * length (K.bytes x) + (L.credit + M.credit)
+    bounded v (inl i) = r.bound v (inl i)
+    bounded v (inr j) = r.bound v (inr j)
+
+    lying : (v : Where) (x : K.Of) → K.Meets x → (n : ℕ) → length (K.bytes x) ≤ n → Laid n (K.book v x)
+    lying v (inl i) = r.laid v (inl i)
+    lying v (inr j) = r.laid v (inr j)
+
+    telling : (u v : Where) (x y : K.Of) → K.Meets x → K.Meets y → K.book u x ≡ K.book v y → x ≡ y
+    telling u v (inl i) (inl j) = r.tells u v (inl i) (inl j)
+    telling u v (inl i) (inr j) = r.tells u v (inl i) (inr j)
+    telling u v (inr i) (inl j) = r.tells u v (inr i) (inl j)
+    telling u v (inr i) (inr j) = r.tells u v (inr i) (inr j)
+
+    moving : (v : Where) (n : ℕ) (x : K.Of) → K.book (v later n) x ≡ K.book v x
+    moving v n (inl i) = r.moved v n (inl i)
+    moving v n (inr j) = r.moved v n (inr j)
 
 -- no turn where no item comes
 many_none : (ks : List ℕ) (q : Renderer) (m : ℕ) (rs : List Rec) → Fresh ks rs → r_many ks q m rs ≡ gives [] rs
