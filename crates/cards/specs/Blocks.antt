@@ -1,5 +1,5 @@
 -- A card's book in blocks: each object with all its records, and nothing of it cut off.
-use Rattle.std.specs.Prelude.{ℕ, ◌+◌, List, [], ◌∷◌, ◌++◌, not, ◌&&◌, ◌≡◌, refl, get_or, eqb, T}
+use Rattle.std.specs.Prelude.{ℕ, ◌+◌, List, [], ◌∷◌, ◌++◌, not, ◌&&◌, ◌≡◌, refl, length, get_or, eqb, T}
 use Rattle.std.proofs.Common.{append_assoc, append-nil, inl, inr, subst}
 use Rattle.std.proofs.Math.Option.{none, some}
 use Rattle.elements.specs.Put.{le16}
@@ -43,7 +43,7 @@ object_block o = rw (records_are o, ← append-nil (behind o)) (whole o nothing)
 
 objects_blocks : (t : ℕ) (v : Where) (os : List (entries.object t).part.Of) → Blocks (card.under t v os) ((many (entries.object t).part).book v os)
 objects_blocks t v [] = nothing
-objects_blocks t v (o ∷ os) = append (object_block (t, o, v)) (objects_blocks t _ os)
+objects_blocks t v (o ∷ os) = append (object_block (t, o, v)) (objects_blocks t (v on length ((entries.object t).part.bytes o)) os)
 
 filled : {os : List Object} {rs : List Rec} → Blocks os rs → (v : Where) (x : (fill 0x0107).Of) → Blocks os (rs ++ (fill 0x0107).book v x)
 filled {os} {rs} b v none = rw (append-nil rs) b
@@ -56,14 +56,14 @@ entry_blocks v (inr unknown) = other 0x0110 _ tt nothing
 
 entries_blocks : (v : Where) (xs : List (entries.item).Of) → Blocks (each (one entries.item).bytes card.in_entry v xs) ((many (one entries.item)).book v xs)
 entries_blocks v [] = nothing
-entries_blocks v (x ∷ xs) = append (entry_blocks v x) (entries_blocks _ xs)
+entries_blocks v (x ∷ xs) = append (entry_blocks v x) (entries_blocks (v on length ((one entries.item).bytes x)) xs)
 
 directory_blocks : (t : ℕ) (v : Where) (x : (card.directory t).Of) → Blocks (card.under t v x.0) ((many (entries.object t).part and fill 0x0107).book v x)
 directory_blocks t v (objects, filling) = filled (objects_blocks t v objects) v filling
 
 records_blocks : (t : ℕ) (v : Where) (rs : (card.linear t).Of) → Blocks (card.in_records t v rs) ((many (card.record_in t)).book v rs)
 records_blocks t v [] = nothing
-records_blocks t v (r ∷ rs) = append (other 0x011a [] tt (directory_blocks t (v on 2) r)) (records_blocks t _ rs)
+records_blocks t v (r ∷ rs) = append (other 0x011a [] tt (directory_blocks t (v on 2) r)) (records_blocks t (v on length ((card.record_in t).bytes r)) rs)
 
 file_blocks : (n : ℕ) (m : Name) (v : Where) (x : (card.file n m).Of) → Blocks (card.in_file m.tag (opening n 0) x) ((card.file n m).book v x)
 file_blocks n m v (inl x) = other 0x0118 [] tt (directory_blocks m.tag (opening n 0) x)

@@ -106,11 +106,11 @@ once k (e, lacking, few) o =
 -- a certificate's identifier, 0140, and an authentication object's own, 0150
 pub certificate_once : (o : Object) → length (pays certificate_id_row.kind (records_of o)) ≤ 1
 unfolding layouts.insides
-certificate_once = once certificate_id_row.kind ((refl, tt, (λ x. tt)), tt, (λ c. elim c [ Keys ↦ omega arith | Certificates ↦ omega arith | Authentications ↦ omega arith | Containers ↦ omega arith ]))
+certificate_once = once certificate_id_row.kind ((refl, tt, (λ x. tt)), tt, (λ c. elim c as (λ k. times certificate_id_row.kind (layouts.class k).all ≤ 1) [ Keys ↦ omega arith | Certificates ↦ omega arith | Authentications ↦ omega arith | Containers ↦ omega arith ]))
 
 pub own_once : (o : Object) → length (pays own_id_row.kind (records_of o)) ≤ 1
 unfolding layouts.insides
-own_once = once own_id_row.kind (own_elsewhere, tt, (λ c. elim c [ Keys ↦ omega arith | Certificates ↦ omega arith | Authentications ↦ omega arith | Containers ↦ omega arith ]))
+own_once = once own_id_row.kind (own_elsewhere, tt, (λ c. elim c as (λ k. times own_id_row.kind (layouts.class k).all ≤ 1) [ Keys ↦ omega arith | Certificates ↦ omega arith | Authentications ↦ omega arith | Containers ↦ omega arith ]))
 
 -- ---- 0127 stands in the rules alone
 id_elsewhere : Elsewhere (kind_of Identifier)
