@@ -24,7 +24,7 @@ fn sort_of_kind(k: usize) -> Sort
 }
 
 // A condition, with so many levels left.
-#[cycle(make_condition_make_condition_as_make_times)]
+#[cycle(condition_tree)]
 pub fn make_condition(b: &[u8], i: usize, levels: usize, out: &mut [u8], o: usize) -> Made
     requires { Making b.now i out.old o }
     ensures { Makes b.now out.old out.new i o (r_condition levels (records_from b.now i)) result }
@@ -48,7 +48,7 @@ pub fn make_condition(b: &[u8], i: usize, levels: usize, out: &mut [u8], o: usiz
 }
 
 // A condition of a sort, whose record's payload is from p to i; what is inside it has so many levels left.
-#[cycle(make_condition_make_condition_as_make_times)]
+#[cycle(condition_tree)]
 fn make_condition_as(
     b: &[u8],
     i: usize,
@@ -83,7 +83,7 @@ fn make_condition_as(
 }
 
 // So many conditions; where no level or no record is left, no more can come.
-#[cycle(make_condition_make_condition_as_make_times)]
+#[cycle(condition_tree)]
 fn make_times(b: &[u8], i: usize, levels: usize, k: usize, out: &mut [u8], o: usize) -> Made
     requires { Making b.now i out.old o }
     ensures { Makes b.now out.old out.new i o (r_times k (λ rs. r_condition levels rs) (records_from b.now i)) result }

@@ -225,6 +225,7 @@ pub few_fit : (s : List ℕ) (levels x e : ℕ) {b c : List ℕ} {q n t k : ℕ}
 few_fit s levels x e {b} {c} {q} {n} {t} {k} d z h l = go (few_of s levels (e - x) 0 e x) (rw z at d)
   where
     go : {w : Res} → Few (e - x) w → DidMany b c q x e w (many.Took n t k) → k < 2 ^ 16
+    go (none {p = p}) x4 = elim x4 [ ]
     go (few m) (did_many f u _ _ _) = omega arith
 
 -- ---- the count is put when it is known

@@ -179,6 +179,7 @@ module _ (s : List ℕ) (at : ℕ) {a b : List ℕ} {o x e : ℕ} {r : Part} (d 
     password_both t = go (rw (sym k ∙ t) at (flags_parts s e x)) (rw z at d)
       where
         go : {w : Res} → Flags true w → Did a b o x e w (Took n q) → Did a b o x e (flagged at w) (Fails PasswordFlags at)
+        go (no_flags {p = p}) v = elim v [ ]
         go (flags u) v = rw u (fell (did_same v))
 
     pub password_plain : y ≡ false → Did a b o x e (password s at x e) (Took n q)
@@ -186,4 +187,5 @@ module _ (s : List ℕ) (at : ℕ) {a b : List ℕ} {o x e : ℕ} {r : Part} (d 
     password_plain t = go (rw (sym k ∙ t) at (flags_parts s e x)) (rw z at d)
       where
         go : {w : Res} → Flags false w → Did a b o x e w (Took n q) → Did a b o x e (flagged at w) (Took n q)
+        go (no_flags {p = p}) v = elim v [ ]
         go (flags u) v = rw u v

@@ -115,6 +115,7 @@ module _ {more : ℕ → ℕ → Bool} {f : ℕ → Reader} {a b : List ℕ} {en
     going_next {x} {i} {r} {q} z g v e = go (f k end n) refl (rw z at d)
       where
         go : (y : Res) → f k end n ≡ y → Did b c p n end y (Took r q) → Going more f a c end at o j i r q
+        go (fails _ _) u x5 = elim x5 [ ]
         go (took cs ns _) u (did g' lo hi sm) = let len : length ns ≡ x = v.is cs ns r u in going_step h m l cs ns u g' (g.is r q z) hi sm (omega arith)
 
   module _ (m : more end n ≡ false) where

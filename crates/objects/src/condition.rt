@@ -47,7 +47,7 @@ fn identifier(s: &[u8], at: usize, a: usize, e: usize, out: &mut [u8], o: usize)
 }
 
 // The condition due at `at`, after k of its list, with so many levels left.
-#[cycle(condition_condition_as_conditions_listed_negated)]
+#[cycle(condition_tree)]
 pub fn condition(
     s: &[u8],
     levels: usize,
@@ -81,7 +81,7 @@ pub fn condition(
 }
 
 // A condition of a sort, at `at`, its contents from a to e; what is inside it has so many levels left.
-#[cycle(condition_condition_as_conditions_listed_negated)]
+#[cycle(condition_tree)]
 fn condition_as(
     s: &[u8],
     levels: usize,
@@ -109,7 +109,7 @@ fn condition_as(
 }
 
 // "A0 not, one inside".
-#[cycle(condition_condition_as_conditions_listed_negated)]
+#[cycle(condition_tree)]
 fn negated(s: &[u8], levels: usize, at: usize, a: usize, e: usize, out: &mut [u8], o: usize) -> Part
     requires { InElement s.now at a e o }
     ensures { Did out.old out.new o a e (condition_as s.now levels Not 0 at a e) result }
@@ -122,7 +122,7 @@ fn negated(s: &[u8], levels: usize, at: usize, a: usize, e: usize, out: &mut [u8
 }
 
 // A list of conditions, "each 2 to 255 inside, 2-byte count": the count is put when it is known.
-#[cycle(condition_condition_as_conditions_listed_negated)]
+#[cycle(condition_tree)]
 fn listed(
     s: &[u8],
     levels: usize,
@@ -150,7 +150,7 @@ fn listed(
 }
 
 // The conditions of a list, from `at` to its end.
-#[cycle(condition_condition_as_conditions_listed_negated)]
+#[cycle(condition_tree)]
 fn conditions(s: &[u8], levels: usize, end: usize, at: usize, out: &mut [u8], o: usize) -> Many
     requires { InContainer s.now end at o }
     ensures { DidMany out.old out.new o at end (repeat to_end (λ j f i. condition s.now levels j f i) (end - at) 0 end at) result }

@@ -1,0 +1,13 @@
+use borrow.Author.Rules.{rules}
+use Rattle.objects.specs.DidLaws.{did_high, did_small}
+use Rattle.objects.proofs.ClassLaws.{subclass_fails, subclass_ends}
+use Rattle.objects.proofs.class.subclass.Goals as goal
+
+pub ended-requires : goal.ended-requires
+ended-requires c = search (did_high, did_small, subclass_fails, subclass_ends, rules)
+
+pub returns-in-Fails : goal.returns-in-Fails
+returns-in-Fails c = search (did_high, did_small, subclass_fails, subclass_ends, rules)
+
+pub returns-in-Took : goal.returns-in-Took
+returns-in-Took c = search (did_high, did_small, subclass_fails, subclass_ends, rules)

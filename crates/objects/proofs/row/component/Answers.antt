@@ -1,0 +1,15 @@
+use borrow.Author.Rules.{rules}
+use Rattle.objects.specs.DidLaws.{due_low, due_mid, due_high, due_fails, due_absent, due_here}
+use Rattle.objects.proofs.row.component.Goals as goal
+
+pub row_body-requires : goal.row_body-requires
+row_body-requires c = search (due_low, due_mid, due_high, due_fails, due_absent, due_here, rules)
+
+pub returns-in-Not : goal.returns-in-Not
+returns-in-Not c = search (due_low, due_mid, due_high, due_fails, due_absent, due_here, rules)
+
+pub returns-in-Absent : goal.returns-in-Absent
+returns-in-Absent c = search (due_low, due_mid, due_high, due_fails, due_absent, due_here, rules)
+
+pub returns-in-Here : goal.returns-in-Here
+returns-in-Here c = search (due_low, due_mid, due_high, due_fails, due_absent, due_here, rules)
