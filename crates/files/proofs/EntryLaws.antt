@@ -233,6 +233,7 @@ module _ {site : Site} {s a b u v : List ℕ} {end at o k n p again : ℕ} (h : 
     entries_broke {f} {y} e = entries_fell (failed (element s (entry_body site s k) end n) refl (rw e at d))
       where
         failed : (r : Res) → element s (entry_body site s k) end n ≡ r → DidObjects b c v x p n end k r (many.Fails f y) → DidObjects a c u x o at end 0 (all_entries site s end at) (many.Fails f y)
+        failed (took _ _ _) q x6 = elim x6 [ ]
         failed (fails _ _) q (fell_objects l g) = rw (going_break h.going (sym m ∙ z) before q) (fell_objects (l ∙ h.same) (g ∙ h.kept))
 
     module _ {r q j : ℕ} (e : w ≡ many.Took r q j) where

@@ -119,6 +119,7 @@ module _ {s : List ℕ} {x : Holder} {site : Site} {entry : ℕ} {a b u v : List
       objects_broke {f} {i} q = failed (object s site entry j end n) next (rw q at d)
         where
           failed : (g : Res) → item_of s x site entry k j end n ≡ g → Did b c p n end g (Fails f i) → DidObjects a c u v o at end k (objects_in s x site entry k end at) (many.Fails f i)
+          failed (took _ _ _) g x6 = elim x6 [ ]
           failed (fails _ _) g (fell l) = rw (going_break h.going (sym m ∙ z) (more_before s x end n (sym m ∙ z)) g) (fell_objects (l ∙ h.same) h.kept)
 
       module _ {i q : ℕ} (g : r ≡ Took i q) (fw : Forward n r) where

@@ -105,7 +105,7 @@ same_there {b} {j} {end} (r ∷ rs) (w ∷ ws) l k =
     let f = first l in
     let g = first k in
     let h : rec r.kind r.pay ≡ rec w.kind w.pay = rw (sym f.kind ∙ g.kind, sym f.pay ∙ g.pay) refl in
-    let t : rs ≡ ws = same_there rs ws f.after g.after in
+    let t : rs ≡ ws = same_there {j = behind b j} rs ws f.after g.after in
     cc
 
 pub lie_same : {b : List ℕ} {j end : ℕ} {rs ws : List Rec} → Lies b j end rs → Lies b j end ws → rs ≡ ws

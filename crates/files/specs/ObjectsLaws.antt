@@ -40,6 +40,7 @@ module _ {a b : List ℕ} {o at end : ℕ} {w : Res} {r : Part} (u : List ℕ) (
   objects_did {n} {q} g h z = go w g (rw z at d)
     where
       go : (w : Res) → Plain w → Did a b o at end w (Took n q) → DidObjects a b u u o at end k w (many.Took n q k)
+      go (fails _ _) g x4 = elim x4 [ ]
       go (took bs ms _) g (did f i j l) = did_objects {ms = ms} {n = n} {j = k} f (rw (g.is bs ms n refl) (put_none u k)) i j l h
 
 module _ {a b u v : List ℕ} {o at end k : ℕ} {w : Res} {r : Many} (d : DidObjects a b u v o at end k w r) where
@@ -105,6 +106,7 @@ module _ {a b u v : List ℕ} {o at end k : ℕ} {w : Res} {r : Many} (d : DidOb
       objects_then {m} {t} pl y = go was (g n) refl (rw y at e)
         where
           go : {w : Res} → DidObjects a b u v o at end k w (many.Took n q j) → (h : Res) → g n ≡ h → Did b c q n end h (Took m t) → DidObjects a c u v o at end k (and_then w g) (many.Took m t j)
+          go (did_objects f s i _ _ l) (fails _ _) eq x28 = elim x28 [ ]
           go (did_objects {bs = bs} {ms = ms} f s i _ _ l) (took cs ns _) eq (did f' i' j' k') =
               let nil : ns ≡ [] = pl.is cs ns m eq in
               rw (eq, nil, append-nil ms) (did_objects {n = m} (put_then f f' (sym (encode_append bs cs))) s (omega arith) j' k' l)
@@ -113,6 +115,7 @@ module _ {a b u v : List ℕ} {o at end k : ℕ} {w : Res} {r : Many} (d : DidOb
       objects_then_fell {f} {p} y = go was (g n) refl (rw y at e)
         where
           go : {w : Res} → DidObjects a b u v o at end k w (many.Took n q j) → (h : Res) → g n ≡ h → Did b c q n end h (Fails f p) → DidObjects a c u v o at end k (and_then w g) (many.Fails f p)
+          go (did_objects f s i _ _ l) (took _ _ _) eq x29 = elim x29 [ ]
           go (did_objects {bs = bs} {ms = ms} f s i _ _ l) (fails _ _) eq (fell e') = rw eq (fell_objects (e' ∙ put_length f) (put_length s))
 
 -- and then a part that puts nothing
