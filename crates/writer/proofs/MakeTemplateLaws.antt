@@ -7,7 +7,7 @@ use lib.Seq.{slice}
 use Rattle.makers.specs.declared.made.Made.{Made}
 use Rattle.makers.specs.declared.made.Made.TheVariants.{Took, Long}
 use Rattle.rules.specs.Reading.{Rec}
-use Rattle.rules.specs.Render.{gives, ◌next◌, within, plain, r_keep, r_fill, r_dir}
+use Rattle.rules.specs.Render.{gives, ◌next◌, within, from, plain, r_keep, r_fill, r_dir}
 use Rattle.rules.specs.Book.{records_from, Ends, next_is}
 use Rattle.makers.specs.Making.{Makes, next_among}
 use Rattle.makers.specs.MadeLaws.{makes_behind, then_long, then_took, when_yes, either_yes, either_no, next_one, from_some}
@@ -26,7 +26,7 @@ module _ {b a c : List ℕ} {i o : ℕ} {r : Made} (m : Makes b a c i o (with_se
 
 -- behind their record
 pub discretionary_here : {b a c : List ℕ} {i e o : ℕ} {t : Bool} {r : Made} → t ≡ next_is 0x0205 (records_from b i) → t ≡ true → Ends b i e → Makes b a c e o (within 0x73 r_discretionary (records_from b e)) r → Makes b a c i o (due_discretionary (records_from b i)) r
-discretionary_here {b} {i = i} e z h m = when_yes 0x0205 (r_within 0x73 r_discretionary) b i e z (rw h.is (makes_behind h m))
+discretionary_here {b} {i = i} e z h m = when_yes 0x0205 (within 0x73 (from (λ k p. r_discretionary))) b i e z (rw h.is (makes_behind h m))
 
 -- a template
 pub template_made : {b a c : List ℕ} {i e o : ℕ} {r : Made} → Ends b i e → Makes b a c e o (within 0x61 inside_template (records_from b e)) r → Makes b a c i o (within 0x61 r_template (records_from b i)) r
