@@ -105,6 +105,7 @@ module _ {s : List ℕ} {site : Site} {entry : ℕ} {a b u v : List ℕ} {end at
         records_fell {f} {y} z = failed (record_at s site entry j end n) refl (rw z at is_record)
           where
             failed : (r : Res) → record_at s site entry j end n ≡ r → DidObjects b c v x p (n + 2) (record_end s n) j r (many.Fails f y) → DidObjects a c u x o at end k (records_in s site entry k end at) (many.Fails f y)
+            failed (Rattle.rules.specs.Reading.took _ _ _) q x6 = elim x6 [ ]
             failed (fails _ _) q (fell_objects i g) = rw (going_break h.going (lt-ltb n end l) l q) (fell_objects (i ∙ h.same) (g ∙ h.kept))
 
         module _ {r q i : ℕ} (z : w ≡ many.Took r q i) where

@@ -27,7 +27,7 @@ pub bounds-out-j : goal.bounds-out-j
 bounds-out-j c = search (turning_tag, rules)
 
 pub file_of-requires : goal.file_of-requires
-file_of-requires c = (c.loop-j.invariant.few, turning_sorted c.loop-j.invariant c.loop-j-test.true c.if-s-n.false c.named_frame.ensures.0 c.kind-1.given.1, file_room c.named_frame.ensures.2 c.kind-1.given.1 c.loop-j.invariant.room, (file_mid c.named_frame.ensures.2 c.kind-1.given.1, file_high c.named_frame.ensures.2 c.kind-1.given.1, c.requires.3, file_place c.named_frame.ensures.2 c.kind-1.given.1 c.loop-j.invariant.room))
+file_of-requires c = (c.loop-j.invariant.few, turning_sorted c.loop-j.invariant c.loop-j-test.true c.if-s-n.false c.named_frame.ensures.0 c.in-File.is, file_room c.named_frame.ensures.2 c.in-File.is c.loop-j.invariant.room, (file_mid c.named_frame.ensures.2 c.in-File.is, file_high c.named_frame.ensures.2 c.in-File.is, c.requires.3, file_place c.named_frame.ensures.2 c.in-File.is c.loop-j.invariant.room))
 
 pub returns-in-Fails : goal.returns-in-Fails
 returns-in-Fails c = search (turning_fell, rules)
@@ -36,13 +36,13 @@ pub overflow_add-f : goal.overflow_add-f
 overflow_add-f c = record { fits = turning_number c.loop-j.invariant c.loop-j-test.true c.requires.3 }
 
 pub next_name-j-requires-in-Took : goal.next_name-j-requires-in-Took
-next_name-j-requires-in-Took c = turning_lies c.loop-j.invariant c.loop-j-test.true c.if-s-n.false c.named_frame.ensures.0 c.kind-1.given.1 c.file_of.ensures c.q-1.given.1 (file_high c.named_frame.ensures.2 c.kind-1.given.1) (file_low c.named_frame.ensures.2 c.kind-1.given.1) c.word.ensures
+next_name-j-requires-in-Took c = turning_lies c.loop-j.invariant c.loop-j-test.true c.if-s-n.false c.named_frame.ensures.0 c.in-File.is c.file_of.ensures c.in-Took.is (file_high c.named_frame.ensures.2 c.in-File.is) (file_low c.named_frame.ensures.2 c.in-File.is) c.word.ensures
 
 pub loop-j-smaller : goal.loop-j-smaller
-loop-j-smaller c = file_less c.named_frame.ensures.2 c.kind-1.given.1 c.if-s-n.false
+loop-j-smaller c = file_less c.named_frame.ensures.2 c.in-File.is c.if-s-n.false
 
 pub loop-j-preserved : goal.loop-j-preserved
-loop-j-preserved c = turning_again c.loop-j.invariant c.loop-j-test.true c.if-s-n.false c.named_frame.ensures.0 c.kind-1.given.1 c.file_of.ensures c.q-1.given.1 (file_high c.named_frame.ensures.2 c.kind-1.given.1) (file_low c.named_frame.ensures.2 c.kind-1.given.1) c.word.ensures c.next_name-j-in-Took.ensures
+loop-j-preserved c = turning_again c.loop-j.invariant c.loop-j-test.true c.if-s-n.false c.named_frame.ensures.0 c.in-File.is c.file_of.ensures c.in-Took.is (file_high c.named_frame.ensures.2 c.in-File.is) (file_low c.named_frame.ensures.2 c.in-File.is) c.word.ensures c.next_name-j-in-Took.ensures
 
 pub returns : goal.returns
 returns c = search (turning_all, rules)

@@ -14,7 +14,7 @@ pub slice_bounds-id_twice-end-in-Took : goal.slice_bounds-id_twice-end-in-Took
 slice_bounds-id_twice-end-in-Took c = search (count_take, files_marks, rules)
 
 pub id_twice-requires : goal.id_twice-requires
-id_twice-requires c = files_hold c.requires c.if-again-ne0.false c.follow.ensures c.enum_told-1.given.1 c.directories.ensures (λ i. omega (arith, c.shared_slice_known-1.given i)) c.n-1.given.1
+id_twice-requires c = files_hold c.requires c.if-again-ne0.false c.follow.ensures c.in-Fine.is c.directories.ensures (λ i. omega (arith, c.shared_slice_known-1.given i)) c.in-Took.is
 
 pub returns-in-Wrong : goal.returns-in-Wrong
 returns-in-Wrong c = search (files_wrong, rules)
@@ -23,7 +23,7 @@ pub returns-in-Fails : goal.returns-in-Fails
 returns-in-Fails c = search (files_fell, rules)
 
 pub returns-in-At : goal.returns-in-At
-returns-in-At c = files_clash c.requires c.if-again-ne0.false c.follow.ensures c.enum_told-1.given.1 c.directories.ensures (λ i. omega (arith, c.shared_slice_known-1.given i)) c.n-1.given.1 c.id_twice.ensures c.in-At.is
+returns-in-At c = files_clash c.requires c.if-again-ne0.false c.follow.ensures c.in-Fine.is c.directories.ensures (λ i. omega (arith, c.shared_slice_known-1.given i)) c.in-Took.is c.id_twice.ensures c.in-At.is
 
 pub returns-in-None : goal.returns-in-None
-returns-in-None c = files_all c.requires c.if-again-ne0.false c.follow.ensures c.enum_told-1.given.1 c.directories.ensures (λ i. omega (arith, c.shared_slice_known-1.given i)) c.n-1.given.1 c.id_twice.ensures c.in-None.is
+returns-in-None c = files_all c.requires c.if-again-ne0.false c.follow.ensures c.in-Fine.is c.directories.ensures (λ i. omega (arith, c.shared_slice_known-1.given i)) c.in-Took.is c.id_twice.ensures c.in-None.is
