@@ -123,10 +123,10 @@ one_held {o} {x} w = go (certifying o.entry)
     go false = rw (held_as w own_id_row.kind refl) (own_once x)
 
 -- a record among these is held at some offset
-held_mem : (at kind : ℕ) (x : List ℕ) (rs : List Rec) → Memᴰ (rec kind x) rs → (q : ℕ) × Memᴰ (held q kind x) (held_all at rs)
+held_mem : (kind : ℕ) (x : List ℕ) (at : ℕ) (rs : List Rec) → Memᴰ (rec kind x) rs → (q : ℕ) × Memᴰ (held q kind x) (held_all at rs)
 unfolding held_all
-held_mem at kind x rs (Memᴰ.head e) = (at, Memᴰ.head (ap (λ (r : Rec). held at r.kind r.pay) e))
-held_mem at kind x rs (Memᴰ.tail {x = r} {xs = rs'} m) = let w = held_mem (past at r) kind x rs' m in (w.0, Memᴰ.tail w.1)
+held_mem kind x at rs (Memᴰ.head e) = (at, Memᴰ.head (ap (λ (r : Rec). held at r.kind r.pay) e))
+held_mem kind x at rs (Memᴰ.tail {x = r} {xs = rs'} m) = let w = held_mem kind x (past at r) rs' m in (w.0, Memᴰ.tail w.1)
 
 -- object j of the card is x
 pub data At (x : card.Object) : ℕ → List card.Object → Type 0 where
@@ -134,6 +134,7 @@ pub data At (x : card.Object) : ℕ → List card.Object → Type 0 where
   later : {y : card.Object} {xs : List card.Object} {j : ℕ} → At x j xs → At x (suc j) (y ∷ xs)
 
 whole_at : {os : List Object} {x : card.Object} {xs : List card.Object} {j : ℕ} → WholeObjects os xs → At x j xs → (o : Object) × (object_at os j ≡ chosen o) × WholeObject o x
+whole_at no_more x7 = elim x7 [ ]
 whole_at (one_more {o = o} w ws) here = (o, refl, w)
 whole_at (one_more w ws) (later a) = whole_at ws a
 
@@ -141,7 +142,7 @@ whole_at (one_more w ws) (later a) = whole_at ws a
 pub each_says : (c : Card) {x : card.Object} {j : ℕ} → At x j (card.objects_of c) → (kind : ℕ) (id : List ℕ) {link : ℕ} → Memᴰ (rec kind id) (behind x) → states x.0 kind ≡ link → (link ≡ 0 → ⊥) → (p : ℕ) × States (objects_of (book_of c)) link j p id
 each_says c {x} a kind id m s z =
     let w = whole_at (whole_objects c) a in
-    let h = held_mem w.2.from kind id (behind x) m in
+    let h = held_mem kind id w.2.from (behind x) m in
     (h.0, record { object = w.0; numbered = w.1; kind = kind; holds = rw w.2.all h.1; says = rw w.2.tag s; some = z })
 
 -- and so is each identifier in a condition of its rules

@@ -1,0 +1,15 @@
+use borrow.Author.Rules.{rules}
+use Rattle.links.specs.Agreement.{handed_fits, handed_sum, handed_part, handed_none}
+use Rattle.links.proofs.fields.field.Goals as goal
+
+pub overflow_add-result : goal.overflow_add-result
+overflow_add-result c = search (handed_sum, rules)
+
+pub slice_bounds-result-end : goal.slice_bounds-result-end
+slice_bounds-result-end c = search (handed_fits, rules)
+
+pub returns-in-At : goal.returns-in-At
+returns-in-At c = search (handed_part, rules)
+
+pub returns-in-Refused : goal.returns-in-Refused
+returns-in-Refused c = search (handed_none, rules)
