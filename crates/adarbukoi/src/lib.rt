@@ -27,24 +27,21 @@ fn tell(r: Outcome, number: &mut u64) -> u32
 }
 
 // A dump into a book.
-#[unsafe(no_mangle)]
-pub extern "C" fn adarbukoi_read(dump: &[u8], book: &mut [u8], told: &mut u64) -> u32
+pub fn adarbukoi_read(dump: &[u8], book: &mut [u8], told: &mut u64) -> u32
     ensures { Exported ReadTold dump.now book.old book.new result told.new }
 {
     tell(layouts::read(dump, book), told)
 }
 
 // A book into the dump that has it.
-#[unsafe(no_mangle)]
-pub extern "C" fn adarbukoi_write(book: &[u8], dump: &mut [u8], told: &mut u64) -> u32
+pub fn adarbukoi_write(book: &[u8], dump: &mut [u8], told: &mut u64) -> u32
     ensures { Exported WriteTold book.now dump.old dump.new result told.new }
 {
     tell(layouts::write(book, dump), told)
 }
 
 // The links of a book into lent numbers, four a row.
-#[unsafe(no_mangle)]
-pub extern "C" fn adarbukoi_list(book: &[u8], rows: &mut [u32], told: &mut u64) -> u32
+pub fn adarbukoi_list(book: &[u8], rows: &mut [u32], told: &mut u64) -> u32
     ensures { Exported ListTold book.now rows.old rows.new result told.new }
 {
     tell(links::list(book, rows), told)
@@ -68,14 +65,7 @@ fn place(r: Place, offset: &mut u64, size: &mut u64) -> u32
 }
 
 // Where a field of a book is; on a refusal the length stays.
-#[unsafe(no_mangle)]
-pub extern "C" fn adarbukoi_field(
-    book: &[u8],
-    object: u32,
-    kind: u32,
-    offset: &mut u64,
-    size: &mut u64,
-) -> u32
+pub fn adarbukoi_field(book: &[u8], object: u32, kind: u32, offset: &mut u64, size: &mut u64) -> u32
     ensures { FieldExported book.now object kind result offset.new size.old size.new }
 {
     place(links::field_place(book, object, kind), offset, size)
@@ -118,8 +108,7 @@ fn reason(r: Why, answer: &mut u32, offset: &mut u64, kind: &mut u32) -> u32
 }
 
 // Why a row of a book's list is as it is; on a refusal answer and kind stay.
-#[unsafe(no_mangle)]
-pub extern "C" fn adarbukoi_why(
+pub fn adarbukoi_why(
     book: &[u8],
     row: u64,
     answer: &mut u32,
