@@ -8,7 +8,7 @@ use Rattle.elements.specs.Length.{tag_bytes, shortest, wrap}
 use Rattle.elements.specs.Lists.{Bytes}
 use Rattle.elements.specs.Put.{le16}
 use Rattle.elements.specs.Record.{record_bytes}
-use Rattle.rules.specs.Grammar.{Element, low, element_bytes, Where, here, site_of, opening, origin, ◌on◌, into, each, flat, one, AllMeet, fill}
+use Rattle.rules.specs.Grammar.{Element, element_bytes, Where, here, opening, origin, ◌on◌, into, each, flat, one, AllMeet, fill}
 use Rattle.rules.specs.Reading.{Rec}
 use Rattle.rules.specs.Files.{Name, accepted, read_dump}
 use Rattle.rules.specs.Layouts as layouts

@@ -14,7 +14,7 @@ use Rattle.elements.specs.Told.{told}
 use Rattle.elements.specs.Text.{due, rows, text_from}
 use Rattle.elements.specs.TextLaws.{level}
 use Rattle.elements.specs.Utf8.{byte, utf8_tail, three, four, utf8_1, utf8_2, utf8_3, utf8_4, utf8_char}
-use Rattle.elements.specs.Utf8Laws.{or_false, passes, three_range, four_range, Turn, no_char, one_char, turn}
+use Rattle.elements.specs.Utf8Laws.{passes, three_range, four_range, Turn, no_char, one_char, turn}
 
 -- one test after the other
 and_no : {w x r : Bool} (y : Bool) → w ≡ (x && y) → r ≡ x → r ≡ false → r ≡ w

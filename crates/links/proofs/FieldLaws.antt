@@ -10,7 +10,7 @@ use Rattle.rules.specs.Book.{Ends}
 use Rattle.rules.specs.BookLaws.{from_few}
 use Rattle.links.specs.declared.fields.Place.{Place}
 use Rattle.links.specs.declared.fields.Place.TheVariants as place
-use Rattle.links.specs.Links.{objects_from, Found, none, first_of, object_at, field_in}
+use Rattle.links.specs.Links.{objects_from, Found, first_of, object_at, field_in}
 use Rattle.links.specs.Finding.{Within, objects_at, held_at, object_there, NextObject, FoundAt}
 use Rattle.links.specs.FindingLaws.{within_end}
 use Rattle.links.specs.Serving.{place_of, PlacedAt}

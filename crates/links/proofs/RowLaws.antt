@@ -1,5 +1,5 @@
 -- Rows put into lent numbers, list by list: those of a link's answers.
-use Prim.Native.Nat.{ℕ, zero, suc, ◌+◌, ◌-◌, ◌*◌, ◌<◌, ◌≤◌}
+use Prim.Native.Nat.{ℕ, suc, ◌+◌, ◌-◌, ◌*◌, ◌<◌, ◌≤◌}
 use mathlib.Core.Path.{◌≡◌, refl, ◌∙◌}
 use mathlib.Core.List.{List, [], ◌∷◌, ◌++◌, map, append_assoc, append-nil}
 use mathlib.Core.Bool.{Bool, true, false}
@@ -13,8 +13,8 @@ use Rattle.elements.specs.Choice.{choose}
 use Rattle.elements.specs.ChoiceLaws.{by_less}
 use Rattle.rules.specs.Files.{equal}
 use Rattle.rules.specs.Book.{Ends}
-use Rattle.links.specs.Links.{Object, answering, bears, answers, Reply, by, missing, number, Row, row, rows_of, listed, chosen, object_at}
-use Rattle.links.specs.Finding.{Within, objects_at, Indexed, AnswerTold, RowPut, RowsPut}
+use Rattle.links.specs.Links.{answering, bears, answers, Reply, by, missing, number, Row, row, rows_of, listed}
+use Rattle.links.specs.Finding.{objects_at, Indexed, AnswerTold, RowPut, RowsPut}
 use Rattle.links.specs.FindingLaws.{at_number}
 use Rattle.links.specs.Told.{four_each}
 use Rattle.links.specs.Chains.{key_of, key_at, Key, Leads, Chained, answers_lead}

@@ -8,7 +8,6 @@ use mathlib.Core.List.{List, [], ◌∷◌, ◌++◌, map, Memᴰ}
 use Rattle.std.proofs.lemmas.Bool.{eqb-false}
 use Rattle.elements.specs.Choice.{choose}
 use Rattle.rules.specs.Reading.{Rec}
-use Rattle.rules.specs.Files.{equal}
 use Rattle.rules.specs.EqualLaws.{equal_is}
 use Rattle.rules.specs.EqualLaws.{equal_self}
 use Rattle.links.specs.Links.{Held, held, Object, objects_of, states, answering, id_kind, Found, none, found, first_of, is_id, bears, answers, Reply, by, missing, Row, row, replies, rows_of, record_rows, object_rows, links_from, links, chosen, object_at, States, Bears}

@@ -3,7 +3,7 @@ use Rattle.std.specs.Prelude.{ℕ, ◌≤◌, ◌≡◌, refl, Bool, true, false
 use Rattle.std.proofs.Common.{arith}
 use Rattle.elements.specs.Lists.{Bytes}
 use Rattle.rules.specs.Book.{records}
-use Rattle.rules.specs.Write.{written, write_dump}
+use Rattle.rules.specs.Write.{write_dump}
 use Rattle.cards.specs.WriteLaws.{records_of_lem}
 use Rattle.cards.specs.Demand2.{read_then_written, refused_if_none, book_most}
 use Rattle.layouts.specs.Accept.{BookTold}

@@ -22,7 +22,7 @@ use Rattle.rules.specs.Reading.{Rec, rec, Res, took, fails, also, Reader, Body}
 use Rattle.rules.specs.Parts as parts
 use Rattle.rules.specs.Rulings.{counts}
 use Rattle.rules.specs.Parts.{counted, repeat, to_end, keep}
-use Rattle.rules.specs.Grammar.{Element, low, element_bytes, first_of, IsElement, SealedIn, Part, Item, ◌or◌, one, behind, many, sealed_one, flat, each, AllMeet, total, Site, Where, here}
+use Rattle.rules.specs.Grammar.{Element, element_bytes, first_of, IsElement, SealedIn, Part, Item, ◌or◌, one, behind, many, sealed_one, flat, each, AllMeet, total, Site, Where, here}
 use Rattle.rules.specs.ElementLaws.{tag_is, is_end, Stands, run_sound, run_complete, head_complete}
 use Rattle.rules.specs.FaultLaws.{Told, sealed_fault}
 use Rattle.rules.specs.GrammarLaws.{marks_append, Stop, tags, close, Look, look, Starts, without, begun, Follows, Facts, Reads, refuses, takes, Goes, progress, reached, Law, BodyLaw, Plain, PlainBody, ItemLaw, whole_reads, whole_goes}

@@ -5,7 +5,6 @@ use Rattle.elements.specs.Sealed.{among}
 use Rattle.rules.specs.Reading.{Rec, rec}
 use Rattle.rules.specs.Looks.{Look, only_if}
 use Rattle.rules.specs.Rendering.{gives, Renderer, when, either}
-use Rattle.rules.specs.Grammar.{empty}
 use Rattle.rules.specs.TestLaws.{and_left, and_right, is_true}
 
 -- records that do not begin with one of the kinds

@@ -23,7 +23,7 @@ use Rattle.rules.specs.Grammar.{Where, site_of, here, opening, into, ◌on◌, �
 use Rattle.rules.specs.ElementLaws.{low_tag, LowTag, low_tag_lem, wrap_is, element_long, same_element}
 use Rattle.rules.specs.ValueLaws.{count_le16, number_le32}
 use Rattle.rules.specs.BoundLaws.{bounds_fit, within_fits, twos_fits, twos_back}
-use Rattle.rules.specs.LookLaws.{pay_first, Fresh, Begins, avoids, size, Laid, bodily, repeats, subset, implies, under, fresh_left, fresh_right, begins_fresh, begins_hard, begins_soft, begins_one, size_append, laid_append, when_none, when_some, fresh_subset, only, begins_many, begins_more, begins_later, apart, longer, not_empty, begins_subset, begins_seq, either_left, either_right, none, some}
+use Rattle.rules.specs.LookLaws.{pay_first, Fresh, Begins, avoids, size, Laid, bodily, repeats, subset, implies, under, fresh_left, fresh_right, begins_fresh, begins_hard, begins_soft, begins_one, size_append, laid_append, when_none, when_some, fresh_subset, only, begins_many, begins_more, begins_later, apart, longer, not_empty, begins_subset, begins_seq, either_left, either_right, none}
 
 -- q makes the part's bytes of its records, in front of any that may follow
 pub record Renders (P : Part) (q : Renderer) (L : Look) : Type 0 where

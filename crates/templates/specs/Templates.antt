@@ -13,7 +13,7 @@ use Rattle.rules.specs.Parts.{component, components, element, repeat, rest, seal
 use Rattle.rules.specs.Tables.{path_kind, template_rows, discretionary_rows, rest_of, kept_of}
 use Rattle.rules.specs.Objects.{path_from}
 use Rattle.rules.specs.Rulings.{ours, headed_by}
-use Rattle.rules.specs.Files.{to_fill, fill}
+use Rattle.rules.specs.Files.{to_fill}
 use Rattle.rules.specs.FileLayouts.{dir_body}
 
 -- "5 where a template of ours has neither path nor 73": it is ours, and neither moved the place from where its label ends, i, to where its path ends, j, and its 73, k

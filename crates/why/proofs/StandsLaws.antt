@@ -1,26 +1,26 @@
 -- Where a value stands, sought record by record; whether there is an object of the class, entry by entry.
-use Prim.Native.Nat.{ℕ, zero, suc, ◌+◌, ◌<◌, ◌≤◌}
+use Prim.Native.Nat.{ℕ, ◌+◌, ◌<◌, ◌≤◌}
 use mathlib.Core.Path.{◌≡◌, refl, sym, ◌∙◌}
 use mathlib.Core.Logic.{◌⊎◌, inl, inr}
-use mathlib.Core.List.{List, [], ◌∷◌}
-use mathlib.Core.Bool.{Bool, true, false, not, ◌&&◌, true≢false}
+use mathlib.Core.List.{List}
+use mathlib.Core.Bool.{Bool, true, false, not, true≢false}
 use native.Mathlib.Omega.{arith}
 use lib.ListN.{length, get_or}
 use lib.Seq.{slice}
 use lib.Dec.{eqb}
-use borrow.Author.Tests.{eqb-true, eqb-false, eq-eqb, ne_eqb, not-true, not-false}
+use borrow.Author.Tests.{eqb-true, eqb-false, ne_eqb, not-true, not-false}
 use Rattle.elements.specs.Sealed.{among}
 use Rattle.rules.specs.Files.{two, equal}
 use Rattle.rules.specs.Book.{Ends}
 use Rattle.rules.specs.BookLaws.{from_few, one_end}
 use Rattle.rules.specs.Blocks.{closing}
-use Rattle.links.specs.Links.{Object, held_from, objects_from, states, answering, Found, none, Chosen, chosen, object_at}
-use Rattle.links.specs.Finding.{Within, objects_at, held_at, NextObject, FoundAt, tag_in, Indexed}
+use Rattle.links.specs.Links.{Object, held_from, objects_from, states, answering, Found, chosen, object_at}
+use Rattle.links.specs.Finding.{Within, objects_at, held_at, NextObject, FoundAt, Indexed}
 use Rattle.links.specs.FindingLaws.{within_end, held_first, some_end, at_number}
 use Rattle.links.specs.Told.{at_below}
-use Rattle.why.specs.Why.{identifier_kinds, peopled, aside, stands_in, or_else, stands}
+use Rattle.why.specs.Why.{identifier_kinds, peopled, aside, stands_in, stands}
 use Rattle.why.specs.Whys.{PeopledTold}
-use Rattle.why.specs.WhyFacts.{Peoples, peopled_some, peopled_none}
+use Rattle.why.specs.WhyFacts.{peopled_some, peopled_none}
 
 -- whether a record is one that may be shown
 module _ (k : ℕ) where

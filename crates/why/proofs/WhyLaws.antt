@@ -1,5 +1,5 @@
 -- A row of the list, out of its four numbers; and why it is as it is.
-use Prim.Native.Nat.{ℕ, zero, suc, ◌+◌, ◌-◌, ◌<◌, ◌≤◌}
+use Prim.Native.Nat.{ℕ, zero, suc, ◌+◌, ◌<◌, ◌≤◌}
 use mathlib.Core.Path.{◌≡◌, refl, sym, ap, ◌∙◌}
 use mathlib.Core.Bool.{Bool, true, false}
 use mathlib.Core.List.{List, [], ◌∷◌, Memᴰ}
@@ -13,7 +13,7 @@ use Rattle.elements.specs.PutLaws.{put_over}
 use Rattle.elements.specs.declared.fault.Fault.TheVariants.{NoDump, NotThere}
 use Rattle.rules.specs.Book.{records, Ends}
 use Rattle.layouts.specs.Accept.{BookTold}
-use Rattle.links.specs.Links.{Reply, by, missing, Row, number, listed, links, links_from, object_at}
+use Rattle.links.specs.Links.{Reply, by, missing, Row, number, listed, links, links_from}
 use Rattle.links.specs.Finding.{objects_at, FoundAt, RowsPut, Indexed}
 use Rattle.links.specs.FindingLaws.{from_start, rows_links, some_end}
 use Rattle.links.specs.Told.{at_below}
@@ -21,8 +21,8 @@ use Rattle.links.specs.BookFacts.{if_book_lem, if_none}
 use Rattle.links.specs.AnswerLaws.{rows_answered}
 use Rattle.why.specs.declared.answer.Why.{Why}
 use Rattle.why.specs.declared.answer.Why.TheVariants as answer
-use Rattle.why.specs.Why.{no_row, the_row, row_at, no_such, peopled, stands, why}
-use Rattle.why.specs.Whys.{reason_told, why_told, whying, WhyTold, MetAt, UnmetAt, PeopledTold, Missed, Explained}
+use Rattle.why.specs.Why.{the_row, row_at, stands, why}
+use Rattle.why.specs.Whys.{why_told, whying, WhyTold, MetAt, UnmetAt, PeopledTold, Missed, Explained}
 use Rattle.why.specs.RowFacts.{row_there, row_past}
 use Rattle.why.proofs.StandsLaws.{peopled_told}
 use Rattle.why.proofs.PlaceLaws.{stated}

@@ -4,7 +4,7 @@ use Rattle.rules.specs.Reading.{Rec, rec}
 use Rattle.rules.specs.Book.{records, records_of}
 use Rattle.rules.specs.Examples.{shared_book}
 use Rattle.links.specs.Links.{held, held_from, objects_from, states, answering, id_kind, first_of, bears, answers, record_rows, object_rows, links_from, links}
-use Rattle.why.specs.Why.{Told, because, no_such, met, no_object, elsewhere, nowhere, pay_at, peopled, aside, stands_in, stands, why}
+use Rattle.why.specs.Why.{because, no_such, met, no_object, elsewhere, nowhere, pay_at, peopled, aside, stands_in, stands, why}
 
 -- the PIN bears 01 in its 0150, at 97; there is no certificate; 02, which guards the PIN, stands nowhere else
 shared_why : (why (records shared_book) 0 ≡ because (met (held 97 0x0150 (0x01 ∷ [])))) × (why (records shared_book) 1 ≡ because no_object) × (why (records shared_book) 2 ≡ because nowhere) × (why (records shared_book) 3 ≡ no_such)
