@@ -8,7 +8,7 @@
  * THREADS: no function keeps or shares anything, so any number of calls may run at once, each on memory of its own.
  * No function allocates; memcpy and memset are the only functions of the C library that the code calls.
  *
- * Link with libadarbukoi.a, which `rt staticlib adarbukoi` writes to target/staticlib/; README.md says how to install both.
+ * Link with libadarbukoi.a, which `tools/library` writes to target/staticlib/; README.md says how to install both.
  */
 #ifndef ADARBUKOI_H
 #define ADARBUKOI_H

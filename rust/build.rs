@@ -1,4 +1,4 @@
-//! Links the proved library. It is built from the repository's root by `rt staticlib adarbukoi`.
+//! Links the proved library. It is built from the repository's root by `tools/library`.
 
 use std::env;
 use std::path::PathBuf;
@@ -15,7 +15,7 @@ fn main() {
     println!("cargo:rerun-if-changed={}", library.display());
     if !library.is_file() {
         eprintln!("{} is not there.", library.display());
-        eprintln!("Build it at the repository's root with `rt staticlib adarbukoi`,");
+        eprintln!("Build it at the repository's root with `tools/library`,");
         eprintln!("or set ADARBUKOI_LIB to the folder that holds {LIBRARY}.");
         std::process::exit(1);
     }
