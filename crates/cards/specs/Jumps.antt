@@ -15,7 +15,7 @@ use Rattle.rules.specs.Layouts as layouts
 use Rattle.rules.specs.Entries as entries
 use Rattle.cards.specs.Card as card
 use Rattle.rules.specs.ElementLaws.{LowTag, wrap_is}
-use Rattle.rules.specs.EntryLaws.{object_low}
+use Rattle.rules.proofs.EntryLaws.{object_low}
 use Rattle.rules.specs.Pays.{pays, pays_append, pays_none, lacks}
 use Rattle.rules.specs.FileLayouts as filing
 use Rattle.cards.specs.Card.{Card, Object, Meets, dump_of, book_of, records_of, front, behind, objects_of}

@@ -13,7 +13,7 @@ use Rattle.rules.specs.LookLaws.{Laid, size}
 use Rattle.rules.specs.ValueLaws.{two_bytes}
 use Rattle.rules.specs.EqualLaws.{equal_is, equal_self}
 use Rattle.rules.specs.BookLaws.{book_size}
-use Rattle.rules.specs.ByteLaws.{candidate_bytes}
+use Rattle.rules.proofs.ByteLaws.{candidate_bytes}
 use Rattle.cards.specs.CardRender.{card_renders, card_bound, card_laid}
 use Rattle.cards.specs.DumpLaws.{accepted_card}
 

@@ -24,10 +24,10 @@ use Rattle.rules.specs.Grammar.{Where, here, into, low, element_bytes, first_of,
 use Rattle.rules.specs.ElementLaws.{LowTag, low_tag_lem, low_is, low_first, Stands, head_complete}
 use Rattle.rules.specs.LookLaws.{Laid, size}
 use Rattle.rules.specs.Pays.{names_append}
-use Rattle.rules.specs.ReadLaws.{facts_kept, reads_facts}
+use Rattle.rules.proofs.ReadLaws.{facts_kept, reads_facts}
 use Rattle.rules.specs.Counted.{listed}
 use Rattle.rules.specs.Entries.{object, item, inline, known_tag, context_tag}
-use Rattle.rules.specs.EntryLaws.{known_low, unknown, entry_body_lem, entry_law, entry_renders}
+use Rattle.rules.proofs.EntryLaws.{known_low, unknown, entry_body_lem, entry_law, entry_renders}
 use Rattle.rules.specs.Files.{Name, names_of, paths, met, equal, first_again, filled, fill, entry_body, is_path, is_naming, entry_place}
 use Rattle.cards.specs.CardKinds.{objects_names}
 use Rattle.files.specs.Filing.{PathsTold}

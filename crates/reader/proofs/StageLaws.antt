@@ -37,7 +37,7 @@ use Rattle.rules.specs.Files.{File, files, frames, names_of, paths, first_again,
 use Rattle.rules.specs.Grammar.{origin}
 use Rattle.rules.specs.Book.{encode}
 use Rattle.rules.specs.LookLaws.{Laid, size, laid_append}
-use Rattle.rules.specs.ReadLaws.{cia_kept, od_kept}
+use Rattle.rules.proofs.ReadLaws.{cia_kept, od_kept}
 use Rattle.cards.specs.Card as card
 use Rattle.cards.specs.DumpLaws.{dirs_read}
 use Rattle.cards.specs.CardRender.{files_renders}

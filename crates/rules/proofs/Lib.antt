@@ -1,3 +1,14 @@
 pub mod TagLaws
 pub mod SameLaws
 pub mod KeptLaws
+pub mod FieldLaws
+pub mod ConditionLaws
+pub mod Lawful
+pub mod CheckingLaws
+pub mod Sound
+pub mod SoundLayouts
+pub mod SoundCounted
+pub mod EntryLaws
+pub mod SoundFiles
+pub mod ReadLaws
+pub mod ByteLaws

@@ -1,7 +1,6 @@
 -- What holds objects, said once as a layout is: with what is counted in it, of so many in all, after those before it. And the layouts of files.
 use Rattle.std.specs.Prelude.{ℕ, ◌+◌, ◌-◌, ◌*◌, ◌≤◌, List, [], ◌∷◌, Bool, true, false, not, ◌≡◌, length, get_or, ltb, T}
 use Rattle.std.proofs.Math.Option.{Option}
-use Rattle.std.proofs.Common.{arith}
 use Rattle.elements.specs.declared.fault.Fault.{Fault}
 use Rattle.elements.specs.declared.fault.Fault.TheVariants.{NotDue}
 use Rattle.elements.specs.Choice.{choose}
@@ -16,13 +15,10 @@ use Rattle.rules.specs.Grammar.{Site, Where, here, Part, one, many, numbers, tot
 use Rattle.rules.specs.ElementLaws.{LowTag}
 use Rattle.rules.specs.FaultLaws.{of_reading}
 use Rattle.rules.specs.LookLaws.{avoids, repeats, under, size}
-use Rattle.rules.specs.RenderLaws.{weaken}
 use Rattle.rules.specs.GrammarLaws as exact
 use Rattle.rules.specs.GrammarLaws.{tags, close, is_close, inside_law}
-use Rattle.rules.specs.NumberedLaws as laws
-use Rattle.rules.specs.Bytewise.{b_get, within_b, from_b}
-use Rattle.rules.specs.Lawful.{LawfulCounted, LawfulFile, is_free, closed, listed_lawful, filed_lawful, single_lawful}
-pub use Rattle.rules.specs.Lawful.{front_of, ahead, r_ahead, part_ahead, ahead_look, Short, Solid}
+use Rattle.rules.specs.Faces.{is_free}
+pub use Rattle.rules.specs.Faces.{front_of, ahead, r_ahead, part_ahead, ahead_look, Short, Solid}
 use Rattle.rules.specs.Layout.{Layout}
 
 -- a layout in which something is counted, `most` at most
@@ -36,7 +32,6 @@ pub record Counted : Type 1 where
   pub kinds : Look
   pub tags : exact.Look
   pub Fine : Type 0
-  pub lawful : Fine → LawfulCounted most part count read render kinds tags
 
 -- the same of a file
 pub record FileLayout : Type 1 where
@@ -47,7 +42,6 @@ pub record FileLayout : Type 1 where
   pub render : Renderer
   pub kinds : Look
   pub Fine : Type 0
-  pub lawful : Fine → LawfulFile most part count read render kinds
 
 -- one after the other, to the end of the container
 abbrev pub listed : Counted → Counted
@@ -60,7 +54,6 @@ listed P = record {
   kinds = many_look P.kinds;
   tags = exact.look P.tags.first true close;
   Fine = P.Fine × T (repeats P.kinds) × T (not P.tags.empty) × T (is_free P.tags.stop);
-  lawful = λ z. listed_lawful (P.lawful z.0) z.1 z.2 z.3;
 }
 
 -- a record in front, one after the other, and then possibly fill
@@ -73,7 +66,6 @@ filed f kind P = record {
   render = r_ahead f (r_all P.kinds.first P.render) next r_fill kind;
   kinds = seq_look (ahead_look f (many_look P.kinds)) (fill_look kind);
   Fine = P.Fine × Short f × T (repeats P.kinds) × T (not P.tags.empty) × T (is_free P.tags.stop) × Solid P.tags.first × T (ltb kind 65536) × T (avoids (kind ∷ []) (ahead_look f (many_look P.kinds)).stop);
-  lawful = λ z. filed_lawful (P.lawful z.0) f kind z.1 z.2 z.3 z.4 z.5 z.6 z.7;
 }
 
 -- the same of at most one: a second is g
@@ -86,7 +78,6 @@ single g f kind P = record {
   render = (filed f kind P).render;
   kinds = (filed f kind P).kinds;
   Fine = (filed f kind P).Fine × ((x : P.part.Of) → P.count x ≡ 1) × T (of_reading g);
-  lawful = λ z. single_lawful (P.lawful z.0.0) f kind z.0.1 z.0.2 z.0.3 z.0.4 z.0.5 z.0.6 z.0.7 g z.1 z.2;
 }
 
 -- an element with one of these tags, behind a record that tells x, its tag and where it stands: counted by its place, and one too many is f
@@ -96,16 +87,6 @@ numbered_body kind which P x site s t at a e = choose (which t) (λ _. counts at
 -- what stands in it pays for the numbers in its record
 abbrev pub Paid : Part → Type 0
 Paid P = (v : Where) (i : P.Of) → P.Meets i → 2 + size (P.book v i) ≤ 4 * length (P.bytes i)
-
-pub numbered_lawful : (most : ℕ) (f : Fault) (kind : ℕ) (which : ℕ → Bool) (P : ℕ → ℕ → Layout) (x : ℕ) → ((y t : ℕ) → (P y t).Fine × T (under (P y t).kinds (P 0 0).kinds) × T (is_close (P y t).tags.stop) × Paid (P y t).part) → ((t : ℕ) → which t ≡ true → LowTag t) →
-    T (ltb kind 65536) → 1 ≤ most → T (of_reading f) →
-    LawfulCounted most (one (grammar.numbered kind which x (λ t. (P x t).part))) (λ _. 1) (λ site s. up_to most f (λ _. element s (numbered_body kind which (P x) x site s)))
-    (from (λ k p. within (get_or p 1 0) (P (get_or p 0 0) (get_or p 1 0)).render)) (look (kind ∷ []) false (P 0 0).kinds.stop 0) (exact.look which false (tags []))
-numbered_lawful most f kind which P x fine real z m told = record {
-  exact = λ site s b l k h. laws.numbered_law kind which x (λ t. (P x t).part) real site s b l most f told (λ t. (P x t).read s 0) (λ t. inside_law (((P x t).lawful (fine x t).0).exact site s b l 0 (omega arith)) (closed (P x t).tags.stop (fine x t).2)) m k h;
-  renders = laws.numbered_renders kind which x (λ t. (P x t).part) real (λ y t. (P y t).render) (P 0 0).kinds (λ t. weaken (P x t).kinds (P 0 0).kinds (fine x t).1 ((P x t).lawful (fine x t).0).renders) (λ t. (fine x t).3) z;
-  clean = from_b (λ k p a. within_b (get_or p 1 0) (b_get p 1 a) ((P (get_or p 0 0) (get_or p 1 0)).lawful (fine (get_or p 0 0) (get_or p 1 0)).0).clean);
-}
 
 abbrev pub numbered : (most : ℕ) → Fault → (kind : ℕ) → (ℕ → Bool) → (ℕ → ℕ → Layout) → ℕ → Counted
 numbered most f kind which P x = record {
@@ -117,5 +98,4 @@ numbered most f kind which P x = record {
   kinds = look (kind ∷ []) false (P 0 0).kinds.stop 0;
   tags = exact.look which false (tags []);
   Fine = ((y t : ℕ) → (P y t).Fine × T (under (P y t).kinds (P 0 0).kinds) × T (is_close (P y t).tags.stop) × Paid (P y t).part) × ((t : ℕ) → which t ≡ true → LowTag t) × T (ltb kind 65536) × (1 ≤ most) × T (of_reading f);
-  lawful = λ z. numbered_lawful most f kind which P x z.0 z.1 z.2 z.3 z.4;
 }

@@ -1,10 +1,7 @@
 -- EF.OD, a transparent directory file, a record of a record file and EF.DIR, each said once.
-use Rattle.std.specs.Prelude.{ℕ, List, [], ◌∷◌, ◌++◌, Bool, true, false, ◌||◌, ◌&&◌, not, ◌≡◌, refl, leb, eqb, T}
+use Rattle.std.specs.Prelude.{ℕ, List, [], ◌∷◌, ◌++◌, Bool, false, ◌&&◌, not, eqb, T}
 use Rattle.std.proofs.Math.Option.{none, some}
-use Rattle.std.proofs.Common.{arith, leb-true, eqb-true}
-use Rattle.std.proofs.lemmas.Bool.{eqb-false, not-true}
 use Rattle.elements.specs.declared.fault.Fault.TheVariants.{NotDue, SecondObject}
-use Rattle.elements.specs.ChoiceLaws.{both_true}
 use Rattle.rules.specs.Reading.{rec, fails, Body}
 use Rattle.elements.specs.Choice.{choose}
 use Rattle.rules.specs.Parts as parts
@@ -12,16 +9,19 @@ use Rattle.rules.specs.Parts.{element}
 use Rattle.rules.specs.Grammar as grammar
 use Rattle.rules.specs.Grammar.{Item, one, many}
 use Rattle.rules.specs.Kinds.{Only, there, late, and_only, many_only, or_only, sealed_only, fill_only}
-use Rattle.rules.specs.Looks.{elem_look, join_look}
+use Rattle.rules.specs.Looks.{Look, look, elem_look, join_look}
 use Rattle.rules.specs.LookLaws.{avoids, bodily}
 use Rattle.rules.specs.Rendering.{within, either, plain}
-use Rattle.rules.specs.Lawful.{no_front, is_not, plain_look, those_lawful}
+use Rattle.rules.specs.Faces.{no_front, is_not, plain_look}
 use Rattle.rules.specs.GrammarLaws as exact
 use Rattle.rules.specs.GrammarLaws.{tags, is_close, low_tag}
-use Rattle.rules.specs.Counted.{Counted, FileLayout, filed, single}
-use Rattle.rules.specs.Layouts.{insides, template, discretionary, path_from, template_fine}
-use Rattle.rules.specs.Entries.{object_tag, object, context_tag, item, in_entry, entry_body, r_entry}
-use Rattle.rules.specs.EntryLaws.{object_fine, entry_look, entry_lawful}
+use Rattle.rules.specs.Counted.{Counted, FileLayout, listed, filed, single}
+use Rattle.rules.specs.Layouts.{template}
+use Rattle.rules.specs.Entries.{object, context_tag, item, in_entry, entry_body, r_entry}
+
+-- what may follow an entry: no object of its list
+abbrev pub entry_look : Look
+entry_look = look (0x0110 ∷ []) false (listed (object 0)).kinds.stop 0
 
 -- an entry of EF.OD
 abbrev pub entry : Counted
@@ -34,7 +34,6 @@ entry = record {
   kinds = entry_look;
   tags = exact.look context_tag false (tags []);
   Fine = Unit {0};
-  lawful = λ _. entry_lawful;
 }
 
 -- "EF.OD: entries .. Then fill, 0107"
@@ -73,7 +72,6 @@ dir_entry = record {
   kinds = join_look (elem_look template.kinds) (plain_look 0x0211);
   tags = exact.look dir_tag false (tags []);
   Fine = template.Fine × T (bodily template.kinds) × T (low_tag 0x61) × T (is_close template.tags.stop) × T (not template.kinds.empty) × T (avoids (0x0211 ∷ []) template.kinds.first);
-  lawful = λ z. those_lawful (template.lawful z.0) 0x61 0x0211 dir_tag refl z.1 z.2 z.3 z.4 z.5 tt;
 }
 
 -- "It stands as a dump record 0005"; "0200 EF.DIR is there"; fill 0212
@@ -87,43 +85,3 @@ dir_kinds = (0x0200 ∷ []) ++ ((template.all ++ 0x0211 ∷ []) ++ 0x0212 ∷ []
 pub dir_only : Only dir.part dir_kinds
 dir_only v x = there tt (late (0x0200 ∷ []) ((template.all ++ 0x0211 ∷ []) ++ 0x0212 ∷ [])
     (and_only (many (one dir_item)) (grammar.fill 0x0212) (many_only (one dir_item) (or_only (grammar.tagged 0x61 template.part) (grammar.sealed_one other_tag 0x0211 no_front) (λ v x. template.only _ x) (sealed_only 0x0211 other_tag no_front))) (fill_only 0x0212) v x))
-
--- fill does not begin as they do
-context_real : (t : ℕ) → context_tag t ≡ true → (t ≡ 0 → ⊥) × (t ≡ 0xff → ⊥)
-context_real t e =
-    let v = both_true (leb 0x80 t) (leb t 0xbf) e in
-    let x = leb-true 0x80 t v.0 in
-    let y = leb-true t 0xbf v.1 in
-    ((λ z. omega arith), (λ z. omega arith))
-
-object_real : (t : ℕ) → object_tag t ≡ true → (t ≡ 0 → ⊥) × (t ≡ 0xff → ⊥)
-object_real t e = go (eqb t 0x30) refl e
-  where
-    go : (b : Bool) → eqb t 0x30 ≡ b → (b || (leb 0xa0 t && leb t 0xa7)) ≡ true → (t ≡ 0 → ⊥) × (t ≡ 0xff → ⊥)
-    go true z e = let q = eqb-true t 0x30 z in ((λ z. omega arith), (λ z. omega arith))
-    go false z e =
-        let v = both_true (leb 0xa0 t) (leb t 0xa7) e in
-        let x = leb-true 0xa0 t v.0 in
-        let y = leb-true t 0xa7 v.1 in
-        ((λ z. omega arith), (λ z. omega arith))
-
-pub od_fine : od.Fine
-unfolding object insides
-od_fine = search (tt, context_real)
-
-pub directory_fine : (tag : ℕ) → (directory tag).Fine
-unfolding object insides
-directory_fine tag = search (tt, object_fine, object_real)
-
-pub record_fine : (tag : ℕ) → (record_in tag).Fine
-unfolding object insides
-record_fine tag = (directory_fine tag, (λ _. refl), tt)
-
-dir_real : (t : ℕ) → dir_tag t ≡ true → (t ≡ 0 → ⊥) × (t ≡ 0xff → ⊥)
-dir_real t e =
-    let v = both_true (not (eqb t 0)) (not (eqb t 0xff)) e in
-    ((λ z. eqb-false t 0 (not-true (eqb t 0) v.0) z), (λ z. eqb-false t 0xff (not-true (eqb t 0xff) v.1) z))
-
-pub dir_fine : dir.Fine
-unfolding template discretionary path_from
-dir_fine = search (tt, dir_real, template_fine)

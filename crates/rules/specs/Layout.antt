@@ -1,5 +1,5 @@
 -- What a part of a card is, said once: its contents as data with their bytes, their records and what they must meet; how it is read; how it is rendered;
--- what is known of its records' kinds and of its tags; and that all this fits together. One definition for each way to put parts together.
+-- what is known of its records' kinds and of its tags; that all this fits together is in proofs/Sound. One definition for each way to put parts together.
 use Rattle.std.specs.Prelude.{ℕ, ◌+◌, ◌-◌, ◌≤◌, List, [], ◌∷◌, ◌++◌, true, false, not, ◌≡◌, refl, length, ltb, leb, eqb, T}
 use Rattle.std.proofs.Common.{le_refl}
 use Rattle.std.proofs.Math.Seq.{slice}
@@ -24,13 +24,10 @@ use Rattle.rules.specs.LookLaws.{avoids, bodily, repeats, under}
 use Rattle.rules.specs.RenderLaws.{rows_fit}
 use Rattle.rules.specs.GrammarLaws as exact
 use Rattle.rules.specs.GrammarLaws.{tags, close, is_close, clear, slot_look, low_tag}
-use Rattle.rules.specs.FieldLaws as exact-fields
-use Rattle.rules.specs.FieldLaws.{rows_clear}
 use Rattle.rules.specs.Rulings.{headed_by}
 use Rattle.rules.specs.Kinds as kinds
 use Rattle.rules.specs.Kinds.{Only, there, early, late, kinds_of, optional_only, and_only, slot_only, fields_only, least_only, or_only, raw_only, sealed_only, rest_only, fill_only}
-use Rattle.rules.specs.Lawful as lawful
-use Rattle.rules.specs.Lawful.{Lawful, LawfulOne, Spot, itself, spot, Checks, any_tag, no_front, is_free, Solid, least_tags, is_not, plain_look}
+use Rattle.rules.specs.Faces.{row_tags, rows_clear, Spot, itself, spot, any_tag, no_front, is_free, Solid, least_tags, is_not, plain_look}
 
 -- a layout: a part and its faces
 pub record Layout : Type 1 where
@@ -45,7 +42,6 @@ pub record Layout : Type 1 where
   pub only : Only part all
   -- tags of one byte, kinds of two, none taken for another
   pub Fine : Type 0
-  pub lawful : Fine → Lawful part read render kinds tags
 
 -- the same of one element, by its tag
 pub record Single : Type 1 where
@@ -56,7 +52,6 @@ pub record Single : Type 1 where
   pub all : List ℕ
   pub only : Only (grammar.one item) all
   pub Fine : Type 0
-  pub lawful : Fine → LawfulOne item body render kinds
 
 -- the contents of an element
 abbrev pub body_of : Layout → List ℕ → Body
@@ -73,7 +68,6 @@ abbrev pub ◌and◌ : Layout → Layout → Layout
   all = P.all ++ Q.all;
   only = and_only P.part Q.part P.only Q.only;
   Fine = P.Fine × Q.Fine × T (avoids Q.kinds.first P.kinds.stop) × T (clear Q.tags.first P.tags.stop);
-  lawful = λ z. lawful.and_lawful (P.lawful z.0) (Q.lawful z.1) z.2 z.3;
 }
 
 -- the components of a table, in its order
@@ -83,11 +77,10 @@ fields rs = record {
   read = λ s own. components s rs;
   render = r_rows rs;
   kinds = rows_look rs;
-  tags = exact-fields.rows_look rs;
+  tags = row_tags rs;
   all = kinds_of rs;
   only = fields_only rs;
   Fine = T (rows_fit rs) × T (rows_clear rs);
-  lawful = λ z. lawful.fields_lawful rs z.0 z.1;
 }
 
 -- "Rest means sealed elements after the listed components"
@@ -101,7 +94,6 @@ rest kind out = record {
   all = kind ∷ [];
   only = rest_only kind out;
   Fine = T (ltb kind 65536);
-  lawful = lawful.rest_lawful kind out;
 }
 
 -- and nothing more is due
@@ -115,12 +107,11 @@ ended P = record {
   all = P.all;
   only = P.only;
   Fine = P.Fine;
-  lawful = λ z. lawful.ended_lawful (P.lawful z);
 }
 
 -- what does not look at the place of its element
 abbrev pub apart : Layout → Layout
-apart P = record { part = P.part; read = λ s own. P.read s 0; render = P.render; kinds = P.kinds; tags = P.tags; all = P.all; only = P.only; Fine = P.Fine; lawful = λ z. lawful.apart_lawful (P.lawful z) }
+apart P = record { part = P.part; read = λ s own. P.read s 0; render = P.render; kinds = P.kinds; tags = P.tags; all = P.all; only = P.only; Fine = P.Fine }
 
 -- a tag of one byte, around contents that end with their container
 abbrev pub Held : ℕ → Layout → Type 0
@@ -137,7 +128,6 @@ due t P = record {
   all = P.all;
   only = λ v x. P.only _ x;
   Fine = P.Fine × Held t P;
-  lawful = λ z. lawful.due_lawful (P.lawful z.0) t z.1.0 z.1.1 z.1.2;
 }
 
 -- one that its kinds tell: it is due, or it may lack
@@ -151,7 +141,6 @@ offered d t P = record {
   all = P.all;
   only = slot_only P.part d t P.only;
   Fine = P.Fine × T (not P.kinds.empty) × Held t P;
-  lawful = λ z. lawful.offered_lawful (P.lawful z.0) d t z.2.0 z.2.1 z.2.2 z.1;
 }
 
 abbrev pub told : ℕ → Layout → Layout
@@ -171,12 +160,11 @@ at_least_one P = record {
   all = P.all;
   only = least_only P.part P.only;
   Fine = P.Fine × T (repeats P.kinds) × T (not P.tags.empty) × T (is_free P.tags.stop) × T (clear P.tags.first P.tags.stop);
-  lawful = λ z. lawful.least_lawful (P.lawful z.0) z.1 z.2 z.3 z.4;
 }
 
 -- what is more to meet, of all that was read: f refuses at the sequence or at its end, or lets it pass
-abbrev pub with_at : Spot → (P : Layout) (f : ℕ → Res → Res) (more : P.part.Of → Type 0) → Checks P.part f more → Layout
-with_at w P f more c = record {
+abbrev pub with_at : Spot → (P : Layout) (f : ℕ → Res → Res) (more : P.part.Of → Type 0) → Layout
+with_at w P f more = record {
   part = grammar.with P.part more;
   read = λ s own end at. f (spot w own end) (P.read s own end at);
   render = P.render;
@@ -185,11 +173,10 @@ with_at w P f more c = record {
   all = P.all;
   only = P.only;
   Fine = P.Fine;
-  lawful = λ z. lawful.with_lawful (P.lawful z) f more c w;
 }
 
-abbrev pub with : (P : Layout) (f : ℕ → Res → Res) (more : P.part.Of → Type 0) → Checks P.part f more → Layout
-with P f more c = with_at itself P f more c
+abbrev pub with : (P : Layout) (f : ℕ → Res → Res) (more : P.part.Of → Type 0) → Layout
+with P f more = with_at itself P f more
 
 -- behind a record that tells something of it, in at most so many bytes
 abbrev pub headed : (kind most : ℕ) (by : List Rec → List ℕ) (P : Layout) (g : P.part.Of → List ℕ) → ((v : Where) (x : P.part.Of) → P.part.Meets x → by (P.part.book v x) ≡ g x) → ((x : P.part.Of) → length (g x) ≤ most) → Layout
@@ -202,7 +189,6 @@ headed kind most by P g same short = record {
   all = kind ∷ P.all;
   only = λ v x. there (kinds.itself kind P.all) (late (kind ∷ []) P.all (P.only v x));
   Fine = P.Fine × T (ltb kind 65536) × T (leb most 4);
-  lawful = λ z. lawful.headed_lawful (P.lawful z.0) kind most g by same z.1 z.2 short;
 }
 
 -- an empty record in front
@@ -220,7 +206,6 @@ sealed_if t kind = record {
   all = kind ∷ [];
   only = optional_only kind (λ x. eqb x t);
   Fine = T (ltb kind 65536);
-  lawful = lawful.sealed_slot_lawful t kind;
 }
 
 -- sealed contents, present even when empty
@@ -234,7 +219,6 @@ sealed_all kind = record {
   all = kind ∷ [];
   only = raw_only kind (SealedRun 16 []);
   Fine = T (ltb kind 65536);
-  lawful = lawful.sealed_lawful kind;
 }
 
 -- an element that must be there, by its tag
@@ -248,7 +232,6 @@ one I = record {
   all = I.all;
   only = I.only;
   Fine = I.Fine;
-  lawful = λ z. lawful.one_lawful (I.lawful z);
 }
 
 -- sealed, whatever its tag
@@ -261,7 +244,6 @@ sealed_one kind = record {
   all = kind ∷ [];
   only = sealed_only kind any_tag no_front;
   Fine = T (ltb kind 65536);
-  lawful = lawful.sealed_one_lawful kind;
 }
 
 -- the same, known by its kind
@@ -275,7 +257,6 @@ kept kind = record {
   all = kind ∷ [];
   only = sealed_only kind any_tag no_front;
   Fine = T (ltb kind 65536);
-  lawful = lawful.kept_lawful kind;
 }
 
 -- one of a tag, or else sealed
@@ -288,7 +269,6 @@ or_sealed t P kind = record {
   all = P.all ++ kind ∷ [];
   only = or_only (grammar.tagged t P.part) (grammar.sealed_one (is_not t) kind no_front) (λ v x. P.only _ x) (sealed_only kind (is_not t) no_front);
   Fine = P.Fine × Held t P × T (not P.kinds.empty) × T (avoids (kind ∷ []) P.kinds.first) × T (ltb kind 65536);
-  lawful = λ z. lawful.or_lawful (P.lawful z.0) t kind z.1.0 z.1.1 z.1.2 z.2 z.3 z.4;
 }
 
 -- one of several, known by what is common to all
@@ -308,7 +288,6 @@ by_class f c = record {
   all = (f c).all;
   only = (f c).only;
   Fine = (d : Class) → OfClass (class_kinds f) (f d);
-  lawful = λ z. lawful.closing ((f c).lawful (z c).0) (class_kinds f) (z c).1 (z c).2;
 }
 
 abbrev pub type_kinds : (ObjectType → Layout) → Look
@@ -336,7 +315,6 @@ by_type f x = record {
   all = type_all f;
   only = type_only f x;
   Fine = (y : ObjectType) → OfType (type_kinds f) (f y);
-  lawful = λ z. lawful.freely ((f x).lawful (z x).0) (type_kinds f) (z x).1 (z x).2 (z x).3;
 }
 
 -- just one element, and then possibly fill
@@ -350,7 +328,6 @@ alone kind P = record {
   all = P.all ++ kind ∷ [];
   only = and_only P.part (grammar.fill kind) P.only (fill_only kind);
   Fine = P.Fine × T (ltb kind 65536) × T (avoids (kind ∷ []) P.kinds.stop) × T (not P.tags.empty) × T (is_free P.tags.stop) × Solid P.tags.first;
-  lawful = λ z. lawful.alone_lawful (P.lawful z.0) kind z.1 z.2 z.3 z.4 z.5;
 }
 
 infixl 20 ◌and◌

@@ -1,6 +1,6 @@
--- "Layouts and book kinds" of document 01, each said once: what it is, how it is read and rendered, and that these agree.
-use Rattle.std.specs.Prelude.{ℕ, ◌/◌, ◌%◌, ◌≡◌, refl, [], eqb, true}
-use Rattle.std.proofs.Common.{le_refl, arith, eqb-true}
+-- "Layouts and book kinds" of document 01, each said once: what it is, how it is read and rendered; that these agree is in proofs/SoundLayouts.
+use Rattle.std.specs.Prelude.{ℕ, ◌/◌, ◌%◌, ◌≡◌, refl, []}
+use Rattle.std.proofs.Common.{le_refl}
 use Rattle.rules.specs.declared.table.Class.{Class}
 use Rattle.rules.specs.declared.table.Class.TheVariants.{Keys, Certificates, Containers, Authentications}
 use Rattle.rules.specs.declared.table.ObjectType.{ObjectType}
@@ -11,11 +11,11 @@ use Rattle.rules.specs.Tables.{cia_rows, common_rows, rule_rows, key_rows, certi
 use Rattle.rules.specs.Rulings.{paired, flagged, flag_of, ours_in, reached, quiet}
 use Rattle.rules.specs.Grammar as grammar
 use Rattle.rules.specs.Conditions.{condition}
-use Rattle.rules.specs.ConditionRender.{kinds_look, condition_renders, condition_clean, condition_only}
-use Rattle.rules.specs.ConditionLaws.{cond_look, plain_condition_lem}
-use Rattle.rules.specs.Layout.{Layout, Single, ◌and◌, fields, rest, ended, apart, with, with_at, headed, opened, sealed_if, due, told, maybe, at_least_one, sealed_all, one, sealed_one, kept, or_sealed, by_class, by_type, alone, OfClass, class_kinds, OfType, type_kinds}
-use Rattle.rules.specs.Checking.{BothOrNeither, pairs, flags, OursReached, reaches}
-use Rattle.rules.specs.Lawful.{ending}
+use Rattle.rules.specs.ConditionRender.{kinds_look, condition_only}
+use Rattle.rules.specs.Faces.{cond_look}
+use Rattle.rules.specs.Layout.{Layout, Single, ◌and◌, fields, rest, ended, apart, with, with_at, headed, opened, sealed_if, due, told, maybe, at_least_one, sealed_all, one, sealed_one, kept, or_sealed, by_class, by_type, alone}
+use Rattle.rules.specs.Checking.{BothOrNeither, OursReached}
+use Rattle.rules.specs.Faces.{ending}
 
 -- "Rest means sealed elements after the listed components": of a sequence whose components stand in a table
 abbrev pub rest_in : Sequence → Layout
@@ -31,7 +31,7 @@ cia = alone 0x0108 (due 0x30 info)
 
 -- "Path 30 { 04, 0 to 64 bytes, 0180; index 02? 0181; length 80? 0182 }, both to 65,535, both or neither"
 unfoldable pub path_from : ℕ → Layout
-path_from k = with (ended (fields (path_rows_from k))) (paired k) (λ (p, (index, (len, _))). BothOrNeither index len) (pairs k)
+path_from k = with (ended (fields (path_rows_from k))) (paired k) (λ (p, (index, (len, _))). BothOrNeither index len)
 
 abbrev pub path : Layout
 path = path_from (path_kind Path)
@@ -47,7 +47,6 @@ condition_of l = record {
   all = kinds_look.first;
   only = condition_only l;
   Fine = Unit {0};
-  lawful = λ _. record { exact = λ site s b m own o. plain_condition_lem site s b m l; renders = condition_renders l; clean = condition_clean l };
 }
 
 -- "At most 8 deep (house), a leaf at the top being 1"
@@ -94,7 +93,7 @@ certificate = one certificate_value and rest 0x018f []
 
 -- "Password (authentication, tag 30), as 30 { pwdFlags .. lastPasswordChange 18? 0197, Path? 30, rest 019F }"; "8: pwdFlags bits 6 and 7 both set"
 unfoldable pub password : Layout
-password = with (fields password_rows and maybe 0x30 path and rest_in PasswordAttributes) flagged (λ (((bits, _), _), _). bits / 64 % 4 ≡ 3 → ⊥) (flags path.part)
+password = with (fields password_rows and maybe 0x30 path and rest_in PasswordAttributes) flagged (λ (((bits, _), _), _). bits / 64 % 4 ≡ 3 → ⊥)
 
 -- "Private key .. Certificate .. Password .. All others sealed, 01A0"
 abbrev pub types : ObjectType → Layout
@@ -120,39 +119,9 @@ template_parts = fields template_rows and maybe 0x73 (opened 0x0205 discretionar
 
 -- "5 where a template of ours has neither path nor 73", at its end; "The answer says which templates are ours": 0201 in front
 unfoldable pub template : Layout
-template = headed 0x0201 1 ours_in (with_at ending template_parts reached (OursReached discretionary.part) (reaches discretionary.part)) (λ (((aid, _), _), _). flag_of aid) (λ _ _ _. refl) (λ _. le_refl 1)
+template = headed 0x0201 1 ours_in (with_at ending template_parts reached (OursReached discretionary.part)) (λ (((aid, _), _), _). flag_of aid) (λ _ _ _. refl) (λ _. le_refl 1)
 
 -- all of these, where a law computes with them
 unfoldable pub insides : Unit {0}
 unfolding contents common rules rule class subclass typed private_key certificate certificate_value password path_from
 insides = tt
-
--- no tag and no kind in it is taken for another
-classes_fine : (c : Class) → OfClass (class_kinds classes) (classes c)
-classes_fine Keys = search tt
-classes_fine Certificates = search tt
-classes_fine Authentications = search tt
-classes_fine Containers = search tt
-
-types_fine : (x : ObjectType) → OfType (type_kinds types) (types x)
-unfolding insides
-types_fine PrivateKey = search tt
-types_fine Certificate = search tt
-types_fine Password = search tt
-types_fine Sealed = search tt
-
-pub contents_fine : (entry tag : ℕ) → (contents entry tag).Fine
-unfolding insides
-contents_fine entry tag = search (tt, classes_fine, types_fine)
-
-is_30 : (t : ℕ) → eqb t 0x30 ≡ true → (t ≡ 0 → ⊥) × (t ≡ 0xff → ⊥)
-is_30 t e = let q = eqb-true t 0x30 e in ((λ z. omega arith), (λ z. omega arith))
-
-pub cia_fine : cia.Fine
-unfolding cia info
-cia_fine = search (tt, is_30)
-
--- the same of EF.DIR's templates
-pub template_fine : template.Fine
-unfolding template discretionary path_from
-template_fine = search tt

@@ -14,7 +14,6 @@ pub mod BoundLaws
 pub mod LookLaws
 pub mod RenderLaws
 pub mod GrammarLaws
-pub mod FieldLaws
 pub mod Labels
 pub mod KeyReferences
 pub mod ItemLaws
@@ -22,18 +21,15 @@ pub mod Fills
 pub mod FillLaws
 pub mod Bytewise
 pub mod Kinds
-pub mod Lawful
 pub mod Layout
 pub mod Checking
 pub mod NumberedLaws
 pub mod Counted
 pub mod Conditions
-pub mod ConditionLaws
 pub mod ConditionRender
 pub mod Layouts
 pub mod Pays
 pub mod Entries
-pub mod EntryLaws
 pub mod FileLayouts
 pub mod Objects
 pub mod Files
@@ -48,7 +44,6 @@ pub mod Refusals
 pub mod RecordFiles
 pub mod DirCases
 pub mod BookLaws
-pub mod ByteLaws
 pub mod Blocks
 pub mod EqualLaws
-pub mod ReadLaws
+pub mod Faces

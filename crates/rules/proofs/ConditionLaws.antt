@@ -23,17 +23,15 @@ use Rattle.rules.specs.Tables.{tag_of, kind_of, sort_by}
 use Rattle.rules.specs.Rulings.{counts, quiet, listed, identified}
 use Rattle.rules.specs.Grammar.{Element, first_of, Site, Part, Item, empty, flat, one, tagged, with, behind, many, never, raw, total}
 use Rattle.rules.specs.ElementLaws.{is_end, Stands}
-use Rattle.rules.specs.GrammarLaws.{tags, close, Stop, Look, look, Reads, refuses, takes, whole_reads, whole_goes, raw_law, Law, BodyLaw, Plain, ItemLaw, Any, inside_law, ended_law, element_law, tagged_law, shaped_reads, low_tag_lem, low_is, LowTag, by_head}
+use Rattle.rules.specs.GrammarLaws.{tags, close, Stop, Reads, refuses, takes, whole_reads, whole_goes, raw_law, Law, BodyLaw, Plain, ItemLaw, Any, inside_law, ended_law, element_law, tagged_law, shaped_reads, low_tag_lem, low_is, LowTag, by_head}
 use Rattle.rules.specs.ItemLaws.{lift_reads, lift_body, lift_item, narrow, behind_body, sealed_law, list_law, mapped_reads, counts_reads, counts_goes}
 use Rattle.rules.specs.TestLaws.{clash}
+use Rattle.rules.specs.Faces.{cond_look}
 use Rattle.rules.specs.Conditions.{Several, Condition, Sorted, is_other, sorts, body_by_sort, by_sort, condition}
 
 pub total_length : {A : Type 0} (xs : List A) → total (λ _. 1) xs ≡ length xs
 total_length [] = refl
 total_length (x ∷ xs) = omega (arith, total_length xs)
-
-abbrev pub cond_look : Look
-cond_look = look (λ _. true) false (tags [])
 
 -- the sort that has a tag
 pub data Found (f : Sort → ℕ) (t : ℕ) : Sort → Type 0 where

@@ -11,7 +11,8 @@ use Rattle.rules.specs.RenderLaws.{Renders}
 use Rattle.rules.specs.Grammar.{Site, site_of, here, Part}
 use Rattle.rules.specs.GrammarLaws.{Stop, Facts, Reads, takes}
 use Rattle.rules.specs.Layouts as layouts
-use Rattle.rules.specs.FileLayouts as filing
+use Rattle.rules.proofs.SoundLayouts.{cia_sound, cia_fine}
+use Rattle.rules.proofs.SoundFiles.{od_sound, od_fine}
 use Rattle.rules.specs.Files.{cia, od}
 
 pub record Kept (s : List ℕ) (credit end at : ℕ) (rs : List Rec) (n : ℕ) : Type 0 where
@@ -37,8 +38,8 @@ reads_facts {site} {s} {P} {c} {k} {N} {t} {end} {at} {w} {rs} {ms} {n} o e = go
 module _ (s : List ℕ) (bytes : Bytes s) (small : length s ≤ 32768) (end at : ℕ) (h : at ≤ end) (l : end ≤ length s) {rs : List Rec} {ms : List ℕ} {n : ℕ} where
   pub cia_kept : cia s end at ≡ took rs ms n → Kept s 3 end at rs n
   unfolding layouts.cia
-  cia_kept e = let x = (layouts.cia).lawful layouts.cia_fine in facts_kept x.renders l (reads_facts ((x.exact (site_of 0 at) s bytes small 0 (omega arith)).sound end at h l) e)
+  cia_kept e = let x = cia_sound.lawful cia_fine in facts_kept x.renders l (reads_facts ((x.exact (site_of 0 at) s bytes small 0 (omega arith)).sound end at h l) e)
 
   pub od_kept : od s end at ≡ took rs ms n → Kept s 3 end at rs n
   unfolding od
-  od_kept e = let x = (filing.od).lawful filing.od_fine in facts_kept x.renders l (reads_facts ((x.exact (site_of 0 at) s bytes small 0 (omega arith)).sound 0 at end (omega arith) h l) e)
+  od_kept e = let x = od_sound.lawful od_fine in facts_kept x.renders l (reads_facts ((x.exact (site_of 0 at) s bytes small 0 (omega arith)).sound 0 at end (omega arith) h l) e)

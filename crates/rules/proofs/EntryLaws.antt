@@ -9,11 +9,10 @@ use Rattle.elements.specs.Choice.{choose}
 use Rattle.elements.specs.ChoiceLaws.{both_true}
 use Rattle.elements.specs.Lists.{Bytes}
 use Rattle.elements.specs.Length.{wrap}
-use Rattle.rules.specs.declared.table.Need.TheVariants.{Required}
+use Rattle.rules.specs.declared.table.Need.TheVariants.{Required, Optional}
 use Rattle.rules.specs.Reading.{Rec, rec, ◌then◌}
 use Rattle.rules.specs.Parts as parts
 use Rattle.rules.specs.Parts.{component, inside}
-use Rattle.rules.specs.Looks.{Look, look}
 use Rattle.rules.specs.Rendering.{gives, Renderer}
 use Rattle.rules.specs.Grammar.{Site, Where, into, ◌on◌, ◌later◌, low, element_bytes, first_of, ◌or◌, one, tagged, choice, sealed_one, raw}
 use Rattle.rules.specs.ElementLaws.{LowTag, low_tag_lem, low_first, wrap_is, element_long, same_element}
@@ -23,11 +22,16 @@ use Rattle.rules.specs.GrammarLaws as exact
 use Rattle.rules.specs.GrammarLaws.{tags, Law, BodyLaw, PlainBody, ItemLaw, Any, inside_law, ended_law, element_law, component_law, tagged_law, choice_law, raw_law}
 use Rattle.rules.specs.ItemLaws.{lift_body, lift_item, narrow, or_law, otherwise_law, behind_body, sealed_law}
 use Rattle.rules.specs.Bytewise.{Outs, out, out_test, b_get, b_drop, wrap_b, within_b, from_b}
-use Rattle.rules.specs.Lawful.{LawfulCounted, any_tag}
+use Rattle.rules.proofs.Lawful.{LawfulCounted}
+use Rattle.rules.specs.Faces.{any_tag}
 use Rattle.rules.specs.Counted.{listed, Paid}
 use Rattle.rules.specs.Tables.{class_of, type_of}
 use Rattle.rules.specs.Layout.{due, maybe, ended, apart}
-use Rattle.rules.specs.Layouts.{common, class, subclass, typed, contents, insides, contents_fine}
+use Rattle.rules.specs.Layouts.{common, class, subclass, typed, contents, insides}
+use Rattle.rules.proofs.Sound.{due_sound, offered_sound, ended_sound, apart_sound}
+use Rattle.rules.proofs.SoundLayouts.{common_sound, class_sound, subclass_sound, typed_sound, contents_fine}
+use Rattle.rules.proofs.SoundCounted.{listed_sound, object_sound}
+use Rattle.rules.specs.FileLayouts.{entry_look}
 use Rattle.rules.specs.Entries.{PathSize, object_tag, object, naming, inline, known_tag, context_tag, item, in_known, in_entry, named_path, entry_inside, entry_body, r_inside, r_entry_of, r_entry}
 
 -- tags of one byte
@@ -69,10 +73,10 @@ contents_paid entry tag v (((x, y), z), w) (((mx, my), mz), mw) =
       length-append first second,
       length-append (first ++ second) third,
       length-append ((first ++ second) ++ third) (l.part.bytes w),
-      (common.lawful f.0.0.0.0).renders.bound (into v (low 0x30 i)) x mx,
-      (j.lawful f.0.0.1).renders.bound (v on length first) y my,
-      (k.lawful f.0.1).renders.bound (v on length (first ++ second)) z mz,
-      (l.lawful f.1).renders.bound (v on length ((first ++ second) ++ third)) w mw,
+      (common_sound.lawful f.0.0.0.0).renders.bound (into v (low 0x30 i)) x mx,
+      ((due_sound 0x30 (class_sound (class_of entry))).lawful f.0.0.1).renders.bound (v on length first) y my,
+      ((offered_sound Optional 0xa0 subclass_sound).lawful f.0.1).renders.bound (v on length (first ++ second)) z mz,
+      ((due_sound 0xa1 (ended_sound (apart_sound (typed_sound (type_of entry tag))))).lawful f.1).renders.bound (v on length ((first ++ second) ++ third)) w mw,
       element_long (low 0x30 i),
     )
 
@@ -88,7 +92,7 @@ module _ (site : Site) (s : List ℕ) (bytes : Bytes s) (small : length s ≤ 32
   -- objects of a list
   objects_law : (entry k : ℕ) → k ≤ 128 → BodyLaw site s (inside ((listed (object entry)).read site s k)) (listed (object entry)).part (listed (object entry)).count k 128
   unfolding object
-  objects_law entry k h = inside_law (((listed (object entry)).lawful (objects_fine entry)).exact site s bytes small k h) refl
+  objects_law entry k h = inside_law (((listed_sound (object_sound entry)).lawful (objects_fine entry)).exact site s bytes small k h) refl
 
   name_law : (entry : ℕ) → PlainBody site s (named_path s entry) (raw (λ c. rec 0x0110 (entry ∷ 0 ∷ c)) PathSize)
   unfolding named_path
@@ -143,15 +147,11 @@ module _ (site : Site) (s : List ℕ) (bytes : Bytes s) (small : length s ≤ 32
   pub entry_law : (k : ℕ) → k ≤ 128 → Law site s (parts.element s (entry_body site s k)) (one item) in_entry k 128 (exact.look context_tag false (tags []))
   entry_law k h = element_law site s bytes small context_tag (entry_body_lem k h) entry_first
 
--- what may follow an entry: no object of its list
-abbrev pub entry_look : Look
-entry_look = look (0x0110 ∷ []) false (listed (object 0)).kinds.stop 0
-
 module _ (t : ℕ) where
   -- its objects, whatever the entry: the renderer takes their entry from their records
   objects_renders : Renders (listed (object t)).part (listed (object 0)).render (listed (object 0)).kinds
   unfolding object
-  objects_renders = ((listed (object t)).lawful (objects_fine t)).renders
+  objects_renders = ((listed_sound (object_sound t)).lawful (objects_fine t)).renders
 
   known_renders : known_tag t ≡ true → (x : (naming t or inline t).Of) → (naming t or inline t).Meets x → (v : Where) (w : List Rec) → Fresh entry_look.stop w →
       r_entry ((naming t or inline t).book v x ++ w) ≡ gives (element_bytes (low t (element_bytes ((naming t or inline t).shape x)))) w
@@ -225,7 +225,7 @@ test_clean false f g = g tt
 
 inside_clean : Outs r_inside
 unfolding r_inside
-inside_clean = from_b (λ k p a. test_clean (eqb (get_or p 1 0) 0) (λ _ rs h. out (wrap_b 0x30 (wrap 0x04 (drop 2 p)) (omega arith) (wrap_b 0x04 (drop 2 p) (omega arith) (b_drop 2 p a))) h) (λ _. within_b 0xa0 (omega arith) ((listed (object 0)).lawful (objects_fine 0)).clean))
+inside_clean = from_b (λ k p a. test_clean (eqb (get_or p 1 0) 0) (λ _ rs h. out (wrap_b 0x30 (wrap 0x04 (drop 2 p)) (omega arith) (wrap_b 0x04 (drop 2 p) (omega arith) (b_drop 2 p a))) h) (λ _. within_b 0xa0 (omega arith) ((listed_sound (object_sound 0)).lawful (objects_fine 0)).clean))
 
 entry_clean : Outs r_entry
 unfolding r_entry r_entry_of

@@ -1,5 +1,5 @@
 -- What holds of a layout's faces together: it is read as it is and only so, rendering its records gives its bytes, and what is rendered of any records is bytes. One lemma for each way to put layouts together.
-use Rattle.std.specs.Prelude.{ℕ, ◌+◌, ◌-◌, ◌≤◌, List, [], ◌∷◌, ◌++◌, Bool, true, false, ◌&&◌, not, ◌≡◌, refl, length, ltb, leb, eqb, T}
+use Rattle.std.specs.Prelude.{ℕ, ◌+◌, ◌-◌, ◌≤◌, List, [], ◌∷◌, Bool, true, false, ◌&&◌, not, ◌≡◌, refl, length, ltb, leb, eqb, T}
 use Rattle.std.proofs.Common.{append-nil, ◌∙◌, le_refl, arith, T_not, eqb-true, eq-eqb}
 use Rattle.std.proofs.Math.Option.{Option, none, some}
 use Rattle.std.proofs.Math.Seq.{slice}
@@ -31,8 +31,8 @@ use Rattle.rules.specs.LookLaws.{avoids, bodily, repeats, under}
 use Rattle.rules.specs.RenderLaws.{Renders, and_renders, with_renders, weaken, within_renders, offered_renders, sealed_renders, kept_renders, sealed_all_renders, rest_renders, or_renders, many_renders, least_renders, optional_renders, rows_fit, fields_renders, fill_renders, behind_renders}
 use Rattle.rules.specs.GrammarLaws as exact
 use Rattle.rules.specs.GrammarLaws.{Stop, tags, close, is_close, Plain, PlainBody, BodyLaw, Any, ItemLaw, clear, slot_look, low_tag, low_tag_lem, inside_law}
-use Rattle.rules.specs.FieldLaws as exact-fields
-use Rattle.rules.specs.FieldLaws.{rows_clear, fields_law}
+use Rattle.rules.specs.Faces.{any_tag, no_front, is_free, Solid, least_tags, Spot, itself, ending, spot, is_not, plain_look, ahead, r_ahead, part_ahead, ahead_look, Short, row_tags, rows_clear}
+use Rattle.rules.proofs.FieldLaws.{fields_law}
 use Rattle.rules.specs.ItemLaws.{narrow, or_law, otherwise_law, sealed_law, list_law, behind_body, lift_law, recount, total_none}
 use Rattle.rules.specs.FillLaws.{filed_law, single_law, alone_law}
 use Rattle.rules.specs.Bytewise.{Outs, next_b, within_b, when_b, either_b, from_b, plain_b, keep_b, rows_b, all_b, fill_b}
@@ -61,31 +61,15 @@ pub record LawfulFile (most : ℕ) (part : Part) (count : part.Of → ℕ) (read
   pub renders : Renders part render kinds
   pub clean : Outs render
 
--- any tag, and nothing in front of a sealed element in its record
-abbrev pub any_tag : ℕ → Bool
-any_tag t = true
-
-abbrev pub no_front : ℕ → List ℕ
-no_front t = []
-
 -- what may follow: nothing, or anything
 pub closed : (t : Stop) → T (is_close t) → t ≡ close
 closed (tags l) z = absurd z
 closed close z = refl
 
-abbrev pub is_free : Stop → Bool
-is_free (tags []) = true
-is_free (tags (t ∷ l)) = false
-is_free close = false
-
 pub free : (t : Stop) → T (is_free t) → t ≡ tags []
 free (tags []) z = refl
 free (tags (t ∷ l)) z = absurd z
 free close z = absurd z
-
--- tags that no fill begins with
-abbrev pub Solid : (ℕ → Bool) → Type 0
-Solid f = (t : ℕ) → f t ≡ true → (t ≡ 0 → ⊥) × (t ≡ 0xff → ⊥)
 
 -- one after the other
 pub and_lawful : {P Q : Part} {p q : List ℕ → ℕ → Reader} {f g : Renderer} {L M : Look} {A B : exact.Look} → Lawful P p f L A → Lawful Q q g M B → T (avoids M.first L.stop) → T (clear B.first A.stop) →
@@ -93,16 +77,12 @@ pub and_lawful : {P Q : Part} {p q : List ℕ → ℕ → Reader} {f g : Rendere
 and_lawful x y t u = record { exact = λ site s b m own o. exact.seq (x.exact site s b m own o) (y.exact site s b m own o) u; renders = and_renders x.renders y.renders t; clean = next_b x.clean y.clean }
 
 -- the components of a table
-pub fields_lawful : (rs : List Row) → T (rows_fit rs) → T (rows_clear rs) → Lawful (grammar.fields rs) (λ s own. components s rs) (r_rows rs) (rows_look rs) (exact-fields.rows_look rs)
+pub fields_lawful : (rs : List Row) → T (rows_fit rs) → T (rows_clear rs) → Lawful (grammar.fields rs) (λ s own. components s rs) (r_rows rs) (rows_look rs) (row_tags rs)
 fields_lawful rs t u = record { exact = λ site s b m own o. fields_law site s b m rs u; renders = fields_renders rs t; clean = rows_b rs t }
 
 -- the rest of a sequence
 pub rest_lawful : (kind : ℕ) (out : List ℕ) → T (ltb kind 65536) → Lawful (grammar.rest kind out) (λ s own. parts.rest s kind out) (r_keep kind) (rest_look kind) (exact.look (λ t. not (among t out)) true close)
 rest_lawful kind out t = record { exact = λ site s b m own o. exact.rest_law site s b m kind out; renders = rest_renders kind out t; clean = keep_b kind }
-
--- at least one
-abbrev pub least_tags : exact.Look → exact.Look
-least_tags A = exact.seq_look A (exact.look A.first true close)
 
 module _ {P : Part} {p : List ℕ → ℕ → Reader} {f : Renderer} {L : Look} {A : exact.Look} (x : Lawful P p f L A) where
   -- and nothing more is due
@@ -160,15 +140,7 @@ pub data Judges (own : ℕ) (r : Res) : Res → Type 0 where
   passes : {w : Res} → w ≡ r → Judges own r w
   refuses : (x : Fault) → T (of_reading x) → {w : Res} → w ≡ fails x own → Judges own r w
 
--- where a check refuses: at the sequence, or at its end
-pub data Spot : Type 0 where
-  itself : Spot
-  ending : Spot
-
-abbrev pub spot : Spot → ℕ → ℕ → ℕ
-spot itself own end = own
-spot ending own end = end
-
+-- where a check refuses lies in what is read
 spot_in : (w : Spot) {own end n : ℕ} → own ≤ n → end ≤ n → spot w own end ≤ n
 spot_in itself o l = o
 spot_in ending o l = l
@@ -299,12 +271,6 @@ pub kept_lawful : (kind : ℕ) → T (ltb kind 65536) → Lawful (grammar.one (g
 kept_lawful kind t = record { exact = λ site s b m own o. exact.element_law site s b m any_tag (sealed_any kind site s b m) (λ _ _. refl); renders = kept_renders any_tag kind t; clean = keep_b kind }
 
 -- one of a tag, or else sealed
-abbrev pub is_not : ℕ → ℕ → Bool
-is_not t x = not (eqb x t)
-
-abbrev pub plain_look : ℕ → Look
-plain_look kind = look (kind ∷ []) false [] 0
-
 module _ {P : Part} {p : List ℕ → ℕ → Reader} {f : Renderer} {L : Look} {A : exact.Look} (x : Lawful P p f L A) (t kind : ℕ) where
   pub or_lawful : T (bodily L) → T (low_tag t) → T (is_close A.stop) → T (not L.empty) → T (avoids (kind ∷ []) L.first) → T (ltb kind 65536) →
       LawfulOne (grammar.◌or◌ (grammar.tagged t P) (grammar.sealed_one (is_not t) kind no_front)) (λ s v at a e. choose (eqb v t) (λ _. p s at e a) (λ _. parts.sealed s kind [] v at a e)) (either L.first (within t f) plain) (join_look (elem_look L) (plain_look kind))
@@ -361,30 +327,6 @@ module _ {P : Part} {p : List ℕ → ℕ → Reader} {f : Renderer} {L : Look} 
 
   pub freely : T (is_free A.stop) → T (not A.empty) → Lawful P p f M (exact.look any_tag false (tags []))
   freely z n = loose false (λ e. absurd (T_not A.empty n e)) (tags []) (free A.stop z)
-
--- a record in front of a file's own, or none
-abbrev pub front_of : Option Rec → List Rec
-front_of none = []
-front_of (some r) = r ∷ []
-
-abbrev pub ahead : Option Rec → Reader → Reader
-ahead none p = p
-ahead (some r) p = λ end at. also (r ∷ []) [] (p end at)
-
-abbrev pub r_ahead : Option Rec → Renderer → Renderer
-r_ahead none q = q
-r_ahead (some r) q = from (λ k p. q)
-
-abbrev pub part_ahead : Option Rec → Part → Part
-part_ahead f P = record { Of = P.Of; bytes = P.bytes; book = λ v x. front_of f ++ P.book v x; Meets = P.Meets }
-
-abbrev pub ahead_look : Option Rec → Look → Look
-ahead_look none L = L
-ahead_look (some r) L = look (r.kind ∷ []) false L.stop (4 + length r.pay + L.credit)
-
-abbrev pub Short : Option Rec → Type 0
-Short none = Unit {0}
-Short (some r) = T (ltb r.kind 65536) × T (leb (length r.pay) 4)
 
 also_then : (r : Rec) (x : Res) (q : ℕ → Res) → and_then (also (r ∷ []) [] x) q ≡ also (r ∷ []) [] (and_then x q)
 also_then r (fails f p) q = refl

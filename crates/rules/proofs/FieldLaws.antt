@@ -29,7 +29,8 @@ use Rattle.rules.specs.FaultLaws.{of_reading, value_fault}
 use Rattle.rules.specs.TestLaws.{and_left, and_right}
 use Rattle.rules.specs.Grammar.{Site, pay_of, NotDefault, Within, Fine, field, fields}
 use Rattle.rules.specs.BoundLaws.{bounds, within_bounds, signed_is, bounds_fit, within_fits, abs_small, signed_small}
-use Rattle.rules.specs.GrammarLaws.{tags, close, Look, look, Reads, refuses, Plain, PlainBody, clear, seq_look, seq, none_law, low_tag, low_tag_lem, slot_look, whole_reads, whole_goes, component_law}
+use Rattle.rules.specs.Faces.{row_tags, rows_clear}
+use Rattle.rules.specs.GrammarLaws.{close, Reads, refuses, Plain, PlainBody, clear, seq, none_law, low_tag, low_tag_lem, slot_look, whole_reads, whole_goes, component_law}
 
 -- what contents come to
 data Judged (f : Form) (r : Row) (c : List ℕ) : Val → Type 0 where
@@ -97,15 +98,6 @@ pays form.Octets r v w = rw (within_bounds r (pos (length v)) w.1) refl
 pays form.Text r v w = rw (within_bounds r (pos (length v)) w.1) refl
 pays form.Time r v w = refl
 
--- tags of one byte, numbers that fit, and no component taken for another
-abbrev pub rows_look : List Row → Look
-rows_look [] = look (λ _. false) true (tags [])
-rows_look (r ∷ rs) = seq_look (slot_look r.need r.tag) (rows_look rs)
-
-abbrev pub rows_clear : List Row → Bool
-rows_clear [] = true
-rows_clear (r ∷ rs) = (low_tag r.tag && bounds_fit r) && (clear (rows_look rs).first (slot_look r.need r.tag).stop && rows_clear rs)
-
 module _ (site : Site) (s : List ℕ) (bytes : Bytes s) (small : length s ≤ 32768) where
   valued_reads : (r : Row) (at a e : ℕ) → at ≤ length s → a ≤ e → {v : Val} → Judged r.form r (slice a e s) v → Reads site s (field r) (λ _. 0) 0 0 close e a (valued r at e v)
   valued_reads r at a e o h (bad t) = refuses at (o, t)
@@ -129,12 +121,12 @@ module _ (site : Site) (s : List ℕ) (bytes : Bytes s) (small : length s ≤ 32
     complete = λ at a e _ h l v w _ q. whole_goes h (row_complete r m at a e h v w q);
   }
 
-  pub fields_law : (rs : List Row) → T (rows_clear rs) → Plain site s (components s rs) (fields rs) (rows_look rs)
+  pub fields_law : (rs : List Row) → T (rows_clear rs) → Plain site s (components s rs) (fields rs) (row_tags rs)
   unfolding components
   fields_law [] t = none_law site s
   fields_law (r ∷ rs) t =
-      let a = and_left (low_tag r.tag && bounds_fit r) (clear (rows_look rs).first (slot_look r.need r.tag).stop && rows_clear rs) t in
-      let b = and_right (low_tag r.tag && bounds_fit r) (clear (rows_look rs).first (slot_look r.need r.tag).stop && rows_clear rs) t in
+      let a = and_left (low_tag r.tag && bounds_fit r) (clear (row_tags rs).first (slot_look r.need r.tag).stop && rows_clear rs) t in
+      let b = and_right (low_tag r.tag && bounds_fit r) (clear (row_tags rs).first (slot_look r.need r.tag).stop && rows_clear rs) t in
       seq (component_law site s bytes small r.tag (low_tag_lem r.tag (and_left (low_tag r.tag) (bounds_fit r) a)) (row_law r (and_right (low_tag r.tag) (bounds_fit r) a)) r.need)
-      (fields_law rs (and_right (clear (rows_look rs).first (slot_look r.need r.tag).stop) (rows_clear rs) b))
-      (and_left (clear (rows_look rs).first (slot_look r.need r.tag).stop) (rows_clear rs) b)
+      (fields_law rs (and_right (clear (row_tags rs).first (slot_look r.need r.tag).stop) (rows_clear rs) b))
+      (and_left (clear (row_tags rs).first (slot_look r.need r.tag).stop) (rows_clear rs) b)

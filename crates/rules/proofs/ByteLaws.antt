@@ -8,26 +8,24 @@ use Rattle.elements.specs.Lists.{Bytes}
 use Rattle.rules.specs.Book.{laid, records_of, records}
 use Rattle.rules.specs.Files.{Name, names_path, names_of}
 use Rattle.rules.specs.Render.{Renderer, r_cia, r_od, r_directory, r_record_in, r_linear, framing, r_framed, r_named, r_file, r_directories, r_dir, when, used, render}
-use Rattle.rules.specs.Layouts as layouts
-use Rattle.rules.specs.Layouts.{cia_fine}
-use Rattle.rules.specs.FileLayouts as filing
-use Rattle.rules.specs.FileLayouts.{od_fine, directory_fine, record_fine, dir_fine}
+use Rattle.rules.proofs.SoundLayouts.{cia_sound, cia_fine}
+use Rattle.rules.proofs.SoundFiles.{od_sound, od_fine, directory_sound, directory_fine, record_sound, record_fine, dir_sound, dir_fine}
 use Rattle.rules.specs.Bytewise.{AllB, Outs, out, PayB, b_append, b_drop, b_get, nothing_b, next_b, when_b, lengthed_b, either_b, from_b, all_b}
 
 cia_b : Outs r_cia
-cia_b = ((layouts.cia).lawful cia_fine).clean
+cia_b = (cia_sound.lawful cia_fine).clean
 
 od_b : Outs r_od
 unfolding r_od
-od_b = ((filing.od).lawful od_fine).clean
+od_b = (od_sound.lawful od_fine).clean
 
 directory_b : Outs r_directory
 unfolding r_directory
-directory_b = ((filing.directory 0).lawful (directory_fine 0)).clean
+directory_b = ((directory_sound 0).lawful (directory_fine 0)).clean
 
 record_b : Outs r_record_in
 unfolding r_record_in
-record_b = lengthed_b ((filing.record_in 0).lawful (record_fine 0)).clean
+record_b = lengthed_b ((record_sound 0).lawful (record_fine 0)).clean
 
 linear_b : Outs r_linear
 unfolding r_linear
@@ -61,7 +59,7 @@ directories_b (n ∷ ns) h = next_b (file_b n.path h.0) (directories_b ns h.1)
 
 dir_b : Outs r_dir
 unfolding r_dir
-dir_b = ((filing.dir).lawful dir_fine).clean
+dir_b = (dir_sound.lawful dir_fine).clean
 
 -- a file in its record
 framed_b : (kind : ℕ) {q : Renderer} → Outs q → Outs (r_framed kind q)

@@ -1,0 +1,139 @@
+-- That each layout's faces fit together, and that in none a tag or a kind is taken for another.
+use Rattle.std.specs.Prelude.{ℕ, ◌≡◌, [], eqb, true}
+use Rattle.std.proofs.Common.{refl, le_refl, arith, eqb-true}
+use Rattle.rules.specs.declared.table.Need.TheVariants.{Required, Optional}
+use Rattle.rules.specs.declared.table.Class.{Class}
+use Rattle.rules.specs.declared.table.Class.TheVariants.{Keys, Certificates, Containers, Authentications}
+use Rattle.rules.specs.declared.table.ObjectType.{ObjectType}
+use Rattle.rules.specs.declared.table.ObjectType.TheVariants.{PrivateKey, Certificate, Password, Sealed}
+use Rattle.rules.specs.declared.table.Sequence.{Sequence}
+use Rattle.rules.specs.declared.table.Sequence.TheVariants.{Info, Common, Rule, Key, CertificateAttributes, Authentication, PrivateKeyAttributes, PasswordAttributes, Path, Template, Discretionary, OdfPath, InfoPath}
+use Rattle.rules.specs.Tables.{cia_rows, common_rows, rule_rows, key_rows, certificate_rows, authentication_rows, path_kind, path_rows_from, private_rows, password_rows, template_rows, discretionary_rows, rest_of, kept_of, type_of, class_of}
+use Rattle.rules.specs.Rulings.{flag_of, ours_in}
+use Rattle.rules.specs.Faces.{itself, ending}
+use Rattle.rules.specs.ConditionRender.{condition_renders, condition_clean}
+use Rattle.rules.specs.Layout.{OfClass, class_kinds, OfType, type_kinds}
+use Rattle.rules.specs.Layouts.{rest_in, info, cia, path_from, path, condition_of, rule, rules, common, classes, class, subclass, private_key, certificate_value, certificate, password, types, typed, contents, discretionary, template_parts, template, insides}
+use Rattle.rules.proofs.ConditionLaws.{plain_condition_lem}
+use Rattle.rules.proofs.CheckingLaws.{pairs, flags, reaches}
+use Rattle.rules.proofs.Sound.{Sound, SoundOne, and_sound, fields_sound, rest_sound, ended_sound, apart_sound, due_sound, offered_sound, least_sound, with_sound, headed_sound, opened_sound, sealed_if_sound, sealed_all_sound, one_sound, sealed_one_sound, kept_sound, or_sound, class_of_sound, type_of_sound, alone_sound}
+
+rest_in_sound : (q : Sequence) → Sound (rest_in q)
+rest_in_sound q = rest_sound (rest_of q) (kept_of q)
+
+info_sound : Sound info
+unfolding info
+info_sound = and_sound (fields_sound cia_rows) (rest_in_sound Info)
+
+pub cia_sound : Sound cia
+unfolding cia
+cia_sound = alone_sound 0x0108 (due_sound 0x30 info_sound)
+
+path_from_sound : (k : ℕ) → Sound (path_from k)
+unfolding path_from
+path_from_sound k = with_sound itself (ended_sound (fields_sound (path_rows_from k))) (pairs k)
+
+path_sound : Sound path
+path_sound = path_from_sound (path_kind Path)
+
+condition_sound : (l : ℕ) → Sound (condition_of l)
+condition_sound l = record { lawful = λ _. record { exact = λ site s b m own o. plain_condition_lem site s b m l; renders = condition_renders l; clean = condition_clean l } }
+
+rule_sound : Sound rule
+unfolding rule
+rule_sound = and_sound (and_sound (fields_sound rule_rows) (condition_sound 8)) (rest_in_sound Rule)
+
+rules_sound : Sound rules
+unfolding rules
+rules_sound = least_sound (due_sound 0x30 rule_sound)
+
+pub common_sound : Sound common
+unfolding common
+common_sound = and_sound (and_sound (fields_sound common_rows) (offered_sound Optional 0x30 rules_sound)) (rest_in_sound Common)
+
+classes_sound : (c : Class) → Sound (classes c)
+classes_sound Keys = and_sound (fields_sound key_rows) (rest_in_sound Key)
+classes_sound Certificates = and_sound (fields_sound certificate_rows) (rest_in_sound CertificateAttributes)
+classes_sound Authentications = and_sound (fields_sound authentication_rows) (rest_in_sound Authentication)
+classes_sound Containers = sealed_all_sound 0x0160
+
+pub class_sound : (c : Class) → Sound (class c)
+unfolding class
+class_sound = class_of_sound classes classes_sound
+
+pub subclass_sound : Sound subclass
+unfolding subclass
+subclass_sound = ended_sound (one_sound (sealed_one_sound 0x0170))
+
+private_sound : Sound private_key
+unfolding private_key
+private_sound = and_sound (and_sound (offered_sound Required 0x30 path_sound) (fields_sound private_rows)) (rest_in_sound PrivateKeyAttributes)
+
+certificate_value_sound : SoundOne certificate_value
+unfolding certificate_value
+certificate_value_sound = or_sound 0x30 path_sound 0x0184
+
+certificate_sound : Sound certificate
+unfolding certificate
+certificate_sound = and_sound (one_sound certificate_value_sound) (rest_sound 0x018f [])
+
+password_sound : Sound password
+unfolding password
+password_sound = with_sound itself (and_sound (and_sound (fields_sound password_rows) (offered_sound Optional 0x30 path_sound)) (rest_in_sound PasswordAttributes)) (flags path.part)
+
+types_sound : (x : ObjectType) → Sound (types x)
+types_sound PrivateKey = due_sound 0x30 private_sound
+types_sound Certificate = due_sound 0x30 certificate_sound
+types_sound Password = due_sound 0x30 password_sound
+types_sound Sealed = kept_sound 0x01a0
+
+pub typed_sound : (x : ObjectType) → Sound (typed x)
+unfolding typed
+typed_sound = type_of_sound types types_sound
+
+pub contents_sound : (entry tag : ℕ) → Sound (contents entry tag)
+unfolding contents
+contents_sound entry tag =
+    ended_sound (and_sound (and_sound (and_sound (due_sound 0x30 common_sound) (due_sound 0x30 (class_sound (class_of entry)))) (offered_sound Optional 0xa0 subclass_sound)) (due_sound 0xa1 (ended_sound (apart_sound (typed_sound (type_of entry tag))))))
+
+discretionary_sound : Sound discretionary
+unfolding discretionary
+discretionary_sound =
+    and_sound (and_sound (and_sound (and_sound (and_sound (sealed_if_sound 0x06 0x0206) (offered_sound Optional 0x30 (path_from_sound (path_kind OdfPath)))) (offered_sound Optional 0xa0 (path_from_sound (path_kind InfoPath)))) (fields_sound discretionary_rows)) (sealed_if_sound 0x31 0x020e)) (rest_in_sound Discretionary)
+
+parts_sound : Sound template_parts
+parts_sound = and_sound (and_sound (fields_sound template_rows) (offered_sound Optional 0x73 (opened_sound 0x0205 discretionary_sound))) (rest_in_sound Template)
+
+pub template_sound : Sound template
+unfolding template
+template_sound = headed_sound (with_sound ending parts_sound (reaches discretionary.part)) 0x0201 1 ours_in (λ (((aid, _), _), _). flag_of aid) (λ _ _ _. refl) (λ _. le_refl 1)
+
+-- no tag and no kind in it is taken for another
+classes_fine : (c : Class) → OfClass (class_kinds classes) (classes c)
+classes_fine Keys = search tt
+classes_fine Certificates = search tt
+classes_fine Authentications = search tt
+classes_fine Containers = search tt
+
+types_fine : (x : ObjectType) → OfType (type_kinds types) (types x)
+unfolding insides
+types_fine PrivateKey = search tt
+types_fine Certificate = search tt
+types_fine Password = search tt
+types_fine Sealed = search tt
+
+pub contents_fine : (entry tag : ℕ) → (contents entry tag).Fine
+unfolding insides
+contents_fine entry tag = search (tt, classes_fine, types_fine)
+
+is_30 : (t : ℕ) → eqb t 0x30 ≡ true → (t ≡ 0 → ⊥) × (t ≡ 0xff → ⊥)
+is_30 t e = let q = eqb-true t 0x30 e in ((λ z. omega arith), (λ z. omega arith))
+
+pub cia_fine : cia.Fine
+unfolding cia info
+cia_fine = search (tt, is_30)
+
+-- the same of EF.DIR's templates
+pub template_fine : template.Fine
+unfolding template discretionary path_from
+template_fine = search tt
