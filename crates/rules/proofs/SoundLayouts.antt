@@ -18,16 +18,16 @@ use Rattle.rules.proofs.ConditionLaws.{plain_condition_lem}
 use Rattle.rules.proofs.CheckingLaws.{pairs, flags, reaches}
 use Rattle.rules.proofs.Sound.{Sound, SoundOne, and_sound, fields_sound, rest_sound, ended_sound, apart_sound, due_sound, offered_sound, least_sound, with_sound, headed_sound, opened_sound, sealed_if_sound, sealed_all_sound, one_sound, sealed_one_sound, kept_sound, or_sound, class_of_sound, type_of_sound, alone_sound}
 
-rest_in_sound : (q : Sequence) → Sound (rest_in q)
-rest_in_sound q = rest_sound (rest_of q) (kept_of q)
+-- by the way in which a layout is put together
+ruleset ways = (and_sound, fields_sound, rest_sound, ended_sound, apart_sound, due_sound, offered_sound, least_sound, sealed_if_sound, sealed_all_sound, one_sound, sealed_one_sound, kept_sound, or_sound, opened_sound, alone_sound)
 
 info_sound : Sound info
 unfolding info
-info_sound = and_sound (fields_sound cia_rows) (rest_in_sound Info)
+info_sound = search ways
 
 pub cia_sound : Sound cia
 unfolding cia
-cia_sound = alone_sound 0x0108 (due_sound 0x30 info_sound)
+cia_sound = search (ways, info_sound)
 
 path_from_sound : (k : ℕ) → Sound (path_from k)
 unfolding path_from
@@ -41,21 +41,21 @@ condition_sound l = record { lawful = λ _. record { exact = λ site s b m own o
 
 rule_sound : Sound rule
 unfolding rule
-rule_sound = and_sound (and_sound (fields_sound rule_rows) (condition_sound 8)) (rest_in_sound Rule)
+rule_sound = search (ways, condition_sound)
 
 rules_sound : Sound rules
 unfolding rules
-rules_sound = least_sound (due_sound 0x30 rule_sound)
+rules_sound = search (ways, rule_sound)
 
 pub common_sound : Sound common
 unfolding common
-common_sound = and_sound (and_sound (fields_sound common_rows) (offered_sound Optional 0x30 rules_sound)) (rest_in_sound Common)
+common_sound = search (ways, rules_sound)
 
 classes_sound : (c : Class) → Sound (classes c)
-classes_sound Keys = and_sound (fields_sound key_rows) (rest_in_sound Key)
-classes_sound Certificates = and_sound (fields_sound certificate_rows) (rest_in_sound CertificateAttributes)
-classes_sound Authentications = and_sound (fields_sound authentication_rows) (rest_in_sound Authentication)
-classes_sound Containers = sealed_all_sound 0x0160
+classes_sound Keys = search ways
+classes_sound Certificates = search ways
+classes_sound Authentications = search ways
+classes_sound Containers = search ways
 
 pub class_sound : (c : Class) → Sound (class c)
 unfolding class
@@ -63,29 +63,29 @@ class_sound = class_of_sound classes classes_sound
 
 pub subclass_sound : Sound subclass
 unfolding subclass
-subclass_sound = ended_sound (one_sound (sealed_one_sound 0x0170))
+subclass_sound = search ways
 
 private_sound : Sound private_key
 unfolding private_key
-private_sound = and_sound (and_sound (offered_sound Required 0x30 path_sound) (fields_sound private_rows)) (rest_in_sound PrivateKeyAttributes)
+private_sound = search (ways, path_sound)
 
 certificate_value_sound : SoundOne certificate_value
 unfolding certificate_value
-certificate_value_sound = or_sound 0x30 path_sound 0x0184
+certificate_value_sound = search (ways, path_sound)
 
 certificate_sound : Sound certificate
 unfolding certificate
-certificate_sound = and_sound (one_sound certificate_value_sound) (rest_sound 0x018f [])
+certificate_sound = search (ways, certificate_value_sound)
 
 password_sound : Sound password
 unfolding password
-password_sound = with_sound itself (and_sound (and_sound (fields_sound password_rows) (offered_sound Optional 0x30 path_sound)) (rest_in_sound PasswordAttributes)) (flags path.part)
+password_sound = with_sound itself (and_sound (and_sound (fields_sound password_rows) (offered_sound Optional 0x30 path_sound)) (rest_sound (rest_of PasswordAttributes) (kept_of PasswordAttributes))) (flags path.part)
 
 types_sound : (x : ObjectType) → Sound (types x)
-types_sound PrivateKey = due_sound 0x30 private_sound
-types_sound Certificate = due_sound 0x30 certificate_sound
-types_sound Password = due_sound 0x30 password_sound
-types_sound Sealed = kept_sound 0x01a0
+types_sound PrivateKey = search (ways, private_sound)
+types_sound Certificate = search (ways, certificate_sound)
+types_sound Password = search (ways, password_sound)
+types_sound Sealed = search ways
 
 pub typed_sound : (x : ObjectType) → Sound (typed x)
 unfolding typed
@@ -93,16 +93,14 @@ typed_sound = type_of_sound types types_sound
 
 pub contents_sound : (entry tag : ℕ) → Sound (contents entry tag)
 unfolding contents
-contents_sound entry tag =
-    ended_sound (and_sound (and_sound (and_sound (due_sound 0x30 common_sound) (due_sound 0x30 (class_sound (class_of entry)))) (offered_sound Optional 0xa0 subclass_sound)) (due_sound 0xa1 (ended_sound (apart_sound (typed_sound (type_of entry tag))))))
+contents_sound entry tag = search (ways, common_sound, class_sound, subclass_sound, typed_sound) depth 12
 
 discretionary_sound : Sound discretionary
 unfolding discretionary
-discretionary_sound =
-    and_sound (and_sound (and_sound (and_sound (and_sound (sealed_if_sound 0x06 0x0206) (offered_sound Optional 0x30 (path_from_sound (path_kind OdfPath)))) (offered_sound Optional 0xa0 (path_from_sound (path_kind InfoPath)))) (fields_sound discretionary_rows)) (sealed_if_sound 0x31 0x020e)) (rest_in_sound Discretionary)
+discretionary_sound = search (ways, path_from_sound) depth 12
 
 parts_sound : Sound template_parts
-parts_sound = and_sound (and_sound (fields_sound template_rows) (offered_sound Optional 0x73 (opened_sound 0x0205 discretionary_sound))) (rest_in_sound Template)
+parts_sound = search (ways, discretionary_sound)
 
 pub template_sound : Sound template
 unfolding template
