@@ -17,7 +17,7 @@ const ROOM: u64 = 524288;
 
 fn main(rt: HostRuntime) -> io::Result<()> {
     let mut cases = Vec::new(rt.alloc());
-    let n = rt.reader().take(ROOM).read_to_end(&mut cases)?;
+    let n = rt.stdin().take(ROOM).read_to_end(&mut cases)?;
     if n as u64 == ROOM {
         return show::word(&rt, b"THE CASES ARE TOO LONG\n");
     }

@@ -69,7 +69,7 @@ fn of_book(
 fn main(rt: HostRuntime) -> io::Result<()> {
     // one byte more than a book may have: of a longer input the first 131,073 bytes are refused like the whole
     let mut card = Vec::new(rt.alloc());
-    rt.reader().take(131073).read_to_end(&mut card)?;
+    rt.stdin().take(131073).read_to_end(&mut card)?;
     let card = card.as_slice();
     // the other of the two, its book or its dump
     let mut other = [0u8; 65536];
