@@ -4,6 +4,7 @@ ghost use Rattle.std.specs.Prelude.{◌<◌, ◌≡◌, length};
 use crate::{dump, show};
 use elements::number_of;
 use layouts::{Outcome, is_book};
+use std::io;
 
 // Whether is_book's answer is what write says of 15.
 fn agrees(r: Outcome, is: bool) -> bool {
@@ -19,13 +20,13 @@ fn agrees(r: Outcome, is: bool) -> bool {
 }
 
 // The book into the lent slice, and what became of both.
-pub fn write(s: &[u8], lent: &mut [u8]) {
+pub fn write(rt: &impl Print, s: &[u8], lent: &mut [u8]) -> io::Result<()> {
     dump::prepare(lent);
     let r = layouts::write(s, lent);
     if agrees(r, is_book(s)) {
-        return dump::told(b"dump ", r, lent);
+        return dump::told(rt, b"dump ", r, lent);
     }
-    show::word(b"IS_BOOK DIFFERS");
+    show::word(rt, b"IS_BOOK DIFFERS")
 }
 
 // Whether the two are the same bytes.
@@ -96,28 +97,28 @@ fn one_byte_less(b: &[u8], size: usize) -> bool {
 }
 
 // The book of dump d, written again.
-fn again(b: &[u8], d: &[u8]) {
-    show::word(b"book ");
-    show::decimal(b.len());
+fn again(rt: &impl Print, b: &[u8], d: &[u8]) -> io::Result<()> {
+    show::word(rt, b"book ")?;
+    show::decimal(rt, b.len())?;
     if !just_long_enough(b, d) {
-        return show::word(b", NOT THE DUMP");
+        return show::word(rt, b", NOT THE DUMP");
     }
     if !one_byte_less(b, d.len()) {
-        return show::word(b", NOT 14");
+        return show::word(rt, b", NOT 14");
     }
-    show::word(b", the dump again");
+    show::word(rt, b", the dump again")
 }
 
 // The dump is read, and its book written.
-pub fn back(d: &[u8]) {
+pub fn back(rt: &impl Print, d: &[u8]) -> io::Result<()> {
     let mut space = [0u8; 131072];
     match layouts::read(d, &mut space) {
-        Outcome::Refused(f, place) => show::refused(f, place),
+        Outcome::Refused(f, place) => show::refused(rt, f, place),
         Outcome::Accepted(n) => {
             if space.len() < n {
-                return show::word(b"BOOK LONGER THAN THE SLICE");
+                return show::word(rt, b"BOOK LONGER THAN THE SLICE");
             }
-            again(&space[..n], d);
+            again(rt, &space[..n], d)
         }
     }
 }
@@ -252,22 +253,22 @@ fn at_place(b: &mut [u8], i: usize, t: Tally) -> Tally
 }
 
 // The counts; a wrong one is told only where there is one.
-fn counts(t: Tally) {
-    show::word(b"changed ");
-    show::decimal(t.changed);
-    show::word(b", refused ");
-    show::decimal(t.refused);
-    show::word(b", read back ");
-    show::decimal(t.back);
+fn counts(rt: &impl Print, t: Tally) -> io::Result<()> {
+    show::word(rt, b"changed ")?;
+    show::decimal(rt, t.changed)?;
+    show::word(rt, b", refused ")?;
+    show::decimal(rt, t.refused)?;
+    show::word(rt, b", read back ")?;
+    show::decimal(rt, t.back)?;
     if t.wrong == 0 {
-        return;
+        return Ok(());
     }
-    show::word(b", WRONG ");
-    show::decimal(t.wrong);
+    show::word(rt, b", WRONG ")?;
+    show::decimal(rt, t.wrong)
 }
 
 // The book's bytes at 0, step, 2 step and so on, changed one at a time.
-fn changes(b: &mut [u8], step: usize)
+fn changes(rt: &impl Print, b: &mut [u8], step: usize) -> io::Result<()>
     requires { (0 < step) × (step < 1000000) }
 {
     let mut t = Tally {
@@ -281,21 +282,21 @@ fn changes(b: &mut [u8], step: usize)
         t = at_place(b, i, t);
         i += step;
     }
-    counts(t);
+    counts(rt, t)
 }
 
 // The dump is read, and its book changed.
-pub fn spread(d: &[u8], step: usize)
+pub fn spread(rt: &impl Print, d: &[u8], step: usize) -> io::Result<()>
     requires { (0 < step) × (step < 1000000) }
 {
     let mut space = [0u8; 131072];
     match layouts::read(d, &mut space) {
-        Outcome::Refused(f, place) => show::refused(f, place),
+        Outcome::Refused(f, place) => show::refused(rt, f, place),
         Outcome::Accepted(n) => {
             if space.len() < n {
-                return show::word(b"BOOK LONGER THAN THE SLICE");
+                return show::word(rt, b"BOOK LONGER THAN THE SLICE");
             }
-            changes(&mut space[..n], step);
+            changes(rt, &mut space[..n], step)
         }
     }
 }

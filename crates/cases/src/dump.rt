@@ -4,6 +4,7 @@ ghost use Rattle.std.specs.Prelude.{◌<◌};
 use crate::show;
 use elements::Fault;
 use layouts::Outcome;
+use std::io;
 
 // What byte i of the lent slice is before: (7 i + 3) mod 251, so that no constant passes for it.
 fn before(i: usize) -> u8 {
@@ -54,47 +55,47 @@ fn adler(s: &[u8]) -> u64
 // The longest book or dump that is printed whole.
 const SHORT: usize = 600;
 
-fn whole(what: &[u8], s: &[u8]) {
-    show::word(what);
-    show::decimal(s.len());
-    show::word(b" ");
+fn whole(rt: &impl Print, what: &[u8], s: &[u8]) -> io::Result<()> {
+    show::word(rt, what)?;
+    show::decimal(rt, s.len())?;
+    show::word(rt, b" ")?;
     if s.len() <= SHORT {
-        return show::bytes(s);
+        return show::bytes(rt, s);
     }
-    show::word(b"adler-32 ");
-    show::digest(adler(s));
+    show::word(rt, b"adler-32 ")?;
+    show::digest(rt, adler(s))
 }
 
-fn accepted(what: &[u8], n: usize, lent: &[u8]) {
+fn accepted(rt: &impl Print, what: &[u8], n: usize, lent: &[u8]) -> io::Result<()> {
     if lent.len() < n {
-        return show::word(b"LONGER THAN THE SLICE");
+        return show::word(rt, b"LONGER THAN THE SLICE");
     }
-    whole(what, &lent[..n]);
+    whole(rt, what, &lent[..n])?;
     if kept(lent, n) {
-        return show::word(b", past it unchanged");
+        return show::word(rt, b", past it unchanged");
     }
-    show::word(b", PAST IT CHANGED");
+    show::word(rt, b", PAST IT CHANGED")
 }
 
-fn refused(f: Fault, place: usize, lent: &[u8]) {
-    show::refused(f, place);
+fn refused(rt: &impl Print, f: Fault, place: usize, lent: &[u8]) -> io::Result<()> {
+    show::refused(rt, f, place)?;
     if kept(lent, 0) {
-        return show::word(b", output unchanged");
+        return show::word(rt, b", output unchanged");
     }
-    show::word(b", OUTPUT CHANGED");
+    show::word(rt, b", OUTPUT CHANGED")
 }
 
 // What a service answered, and the slice that was lent to it.
-pub fn told(what: &[u8], r: Outcome, lent: &[u8]) {
+pub fn told(rt: &impl Print, what: &[u8], r: Outcome, lent: &[u8]) -> io::Result<()> {
     match r {
-        Outcome::Refused(f, place) => refused(f, place, lent),
-        Outcome::Accepted(n) => accepted(what, n, lent),
+        Outcome::Refused(f, place) => refused(rt, f, place, lent),
+        Outcome::Accepted(n) => accepted(rt, what, n, lent),
     }
 }
 
 // The dump into the lent slice, and what became of both.
-pub fn read(s: &[u8], lent: &mut [u8]) {
+pub fn read(rt: &impl Print, s: &[u8], lent: &mut [u8]) -> io::Result<()> {
     prepare(lent);
     let r = layouts::read(s, lent);
-    told(b"book ", r, lent);
+    told(rt, b"book ", r, lent)
 }

@@ -2,6 +2,7 @@ ghost use Rattle.std.specs.Prelude.{◌≤◌, ◌≡◌, length};
 
 use crate::show;
 use elements::{Form, Read, put_boolean, put_flags, put_header, put_integer, put_part};
+use std::io;
 
 // The contents of a value, where its form has a way back from a number.
 fn put_value(f: Form, out: &mut [u8], negative: bool, m: u32) -> usize
@@ -19,32 +20,39 @@ fn put_value(f: Form, out: &mut [u8], negative: bool, m: u32) -> usize
 }
 
 // The element of a value written into `out`, which is shown with where it ended.
-fn back(f: Form, tag: u8, negative: bool, m: u32, out: &mut [u8]) {
+fn back(
+    rt: &impl Print,
+    f: Form,
+    tag: u8,
+    negative: bool,
+    m: u32,
+    out: &mut [u8],
+) -> io::Result<()> {
     let mut contents = [0u8; 5];
     let n = put_value(f, &mut contents, negative, m);
     let p = put_header(out, 0, tag, n);
     let q = put_part(out, p, &contents, 0, n);
-    show::word(b" back ");
-    show::bytes(out);
-    show::word(b" to ");
-    show::decimal(q);
+    show::word(rt, b" back ")?;
+    show::bytes(rt, out)?;
+    show::word(rt, b" to ")?;
+    show::decimal(rt, q)
 }
 
 // The element at the start of s.
-pub fn read(f: Form, tag: u8, s: &[u8]) {
-    show::read(elements::element(f, tag, s, 0, s.len()));
+pub fn read(rt: &impl Print, f: Form, tag: u8, s: &[u8]) -> io::Result<()> {
+    show::read(rt, elements::element(f, tag, s, 0, s.len()))
 }
 
 // The same for a form of numbers, and what was read written back into so many bytes, all EE before.
-pub fn number(f: Form, tag: u8, s: &[u8], room: usize) {
+pub fn number(rt: &impl Print, f: Form, tag: u8, s: &[u8], room: usize) -> io::Result<()> {
     let r = elements::element(f, tag, s, 0, s.len());
-    show::read(r);
+    show::read(rt, r)?;
     if 16 < room {
-        return;
+        return Ok(());
     }
     let mut space = [0xeeu8; 16];
     match r {
-        Read::Refused(_, _) => {}
-        Read::Took(negative, m, _) => back(f, tag, negative, m, &mut space[..room]),
+        Read::Refused(_, _) => Ok(()),
+        Read::Took(negative, m, _) => back(rt, f, tag, negative, m, &mut space[..room]),
     }
 }

@@ -6,6 +6,7 @@ use crate::{book, show};
 use elements::Fault;
 use layouts::Outcome;
 use links::Place;
+use std::io;
 use why::Why;
 
 // What stands in a row for an answer that is missing.
@@ -38,88 +39,89 @@ fn kept(lent: &[u32], from: usize) -> bool {
 }
 
 // A number of a row; a missing answer is told as -.
-fn number(n: u32) {
+fn number(rt: &impl Print, n: u32) -> io::Result<()> {
     if n == MISSING {
-        return show::word(b" -");
+        return show::word(rt, b" -");
     }
-    show::word(b" ");
-    show::decimal(n as usize);
+    show::word(rt, b" ")?;
+    show::decimal(rt, n as usize)
 }
 
 // The row whose four numbers start at i.
-fn row(rows: &[u32], i: usize)
+fn row(rt: &impl Print, rows: &[u32], i: usize) -> io::Result<()>
     requires { i + 4 ≤ length rows.now }
 {
-    show::word(b";");
-    number(rows[i]);
-    number(rows[i + 1]);
-    number(rows[i + 2]);
-    number(rows[i + 3]);
+    show::word(rt, b";")?;
+    number(rt, rows[i])?;
+    number(rt, rows[i + 1])?;
+    number(rt, rows[i + 2])?;
+    number(rt, rows[i + 3])
 }
 
 // Every row in turn.
-fn show_rows(rows: &[u32]) {
+fn show_rows(rt: &impl Print, rows: &[u32]) -> io::Result<()> {
     let mut i = 0;
     while i + 4 <= rows.len() {
-        row(rows, i);
+        row(rt, rows, i)?;
         i += 4;
     }
+    Ok(())
 }
 
 // The rows, and whether the numbers past them are what they were.
-fn accepted(n: usize, lent: &[u32]) {
+fn accepted(rt: &impl Print, n: usize, lent: &[u32]) -> io::Result<()> {
     if lent.len() < n {
-        return show::word(b"LONGER THAN THE SLICE");
+        return show::word(rt, b"LONGER THAN THE SLICE");
     }
-    show::word(b"accepted ");
-    show::decimal(n);
-    show_rows(&lent[0..n]);
+    show::word(rt, b"accepted ")?;
+    show::decimal(rt, n)?;
+    show_rows(rt, &lent[0..n])?;
     if kept(lent, n) {
-        return show::word(b", past it unchanged");
+        return show::word(rt, b", past it unchanged");
     }
-    show::word(b", PAST IT CHANGED");
+    show::word(rt, b", PAST IT CHANGED")
 }
 
 // The refusal, and whether every number is what it was.
-fn refused(f: Fault, place: usize, lent: &[u32]) {
-    show::refused(f, place);
+fn refused(rt: &impl Print, f: Fault, place: usize, lent: &[u32]) -> io::Result<()> {
+    show::refused(rt, f, place)?;
     if kept(lent, 0) {
-        return show::word(b", output unchanged");
+        return show::word(rt, b", output unchanged");
     }
-    show::word(b", OUTPUT CHANGED");
+    show::word(rt, b", OUTPUT CHANGED")
 }
 
 // What the list service answered, and the numbers that were lent to it.
-fn told(r: Outcome, lent: &[u32]) {
+fn told(rt: &impl Print, r: Outcome, lent: &[u32]) -> io::Result<()> {
     match r {
-        Outcome::Refused(f, place) => refused(f, place, lent),
-        Outcome::Accepted(n) => accepted(n, lent),
+        Outcome::Refused(f, place) => refused(rt, f, place, lent),
+        Outcome::Accepted(n) => accepted(rt, n, lent),
     }
 }
 
 // The book's links into the lent numbers, and what became of them.
-pub fn list(b: &[u8], lent: &mut [u32]) {
+pub fn list(rt: &impl Print, b: &[u8], lent: &mut [u32]) -> io::Result<()> {
     prepare(lent);
     let r = links::list(b, lent);
-    told(r, lent);
+    told(rt, r, lent)
 }
 
 // The book's links into as many numbers as the lister lends.
-fn list_whole(b: &[u8]) {
+fn list_whole(rt: &impl Print, b: &[u8]) -> io::Result<()> {
     let mut space = [0u32; 16384];
-    list(b, &mut space);
+    list(rt, b, &mut space)
 }
 
 // The dump is read into as many bytes as the lister lends, and its book listed.
-pub fn list_dump(d: &[u8]) {
+pub fn list_dump(rt: &impl Print, d: &[u8]) -> io::Result<()> {
     let mut space = [0u8; 65536];
     match layouts::read(d, &mut space) {
-        Outcome::Refused(f, place) => show::refused(f, place),
+        Outcome::Refused(f, place) => show::refused(rt, f, place),
         Outcome::Accepted(n) => {
             if space.len() < n {
-                return show::word(b"BOOK LONGER THAN THE SLICE");
+                return show::word(rt, b"BOOK LONGER THAN THE SLICE");
             }
-            list_whole(&space[0..n]);
+            list_whole(rt, &space[0..n])
         }
     }
 }
@@ -144,79 +146,79 @@ fn agrees(b: &[u8], place: Place, part: &[u8]) -> bool {
 }
 
 // The payload's offset and length, or the refusal.
-fn show_place(place: Place) {
+fn show_place(rt: &impl Print, place: Place) -> io::Result<()> {
     match place {
-        Place::Refused(f, p) => show::refused(f, p),
+        Place::Refused(f, p) => show::refused(rt, f, p),
         Place::At(p, n) => {
-            show::word(b"at ");
-            show::decimal(p);
-            show::word(b" length ");
-            show::decimal(n);
+            show::word(rt, b"at ")?;
+            show::decimal(rt, p)?;
+            show::word(rt, b" length ")?;
+            show::decimal(rt, n)
         }
     }
 }
 
 // Where the field is, and the field itself.
-fn handed(b: &[u8], place: Place, part: &[u8]) {
-    show_place(place);
-    show::word(b" [");
-    show::bytes(part);
-    show::word(b"]");
+fn handed(rt: &impl Print, b: &[u8], place: Place, part: &[u8]) -> io::Result<()> {
+    show_place(rt, place)?;
+    show::word(rt, b" [")?;
+    show::bytes(rt, part)?;
+    show::word(rt, b"]")?;
     if agrees(b, place, part) {
-        return;
+        return Ok(());
     }
-    show::word(b" DIFFER");
+    show::word(rt, b" DIFFER")
 }
 
 // A field of a book.
-pub fn field(b: &[u8], object: u32, kind: u32) {
+pub fn field(rt: &impl Print, b: &[u8], object: u32, kind: u32) -> io::Result<()> {
     let place = links::field_place(b, object, kind);
-    handed(b, place, links::field(b, object, kind));
+    handed(rt, b, place, links::field(b, object, kind))
 }
 
 // The dump is read, and a field of its book handed back.
-pub fn field_of_dump(d: &[u8], object: u32, kind: u32) {
+pub fn field_of_dump(rt: &impl Print, d: &[u8], object: u32, kind: u32) -> io::Result<()> {
     let mut space = [0u8; 131072];
     match layouts::read(d, &mut space) {
-        Outcome::Refused(f, place) => show::refused(f, place),
+        Outcome::Refused(f, place) => show::refused(rt, f, place),
         Outcome::Accepted(n) => {
             if space.len() < n {
-                return show::word(b"BOOK LONGER THAN THE SLICE");
+                return show::word(rt, b"BOOK LONGER THAN THE SLICE");
             }
-            field(&space[0..n], object, kind);
+            field(rt, &space[0..n], object, kind)
         }
     }
 }
 
 // A record that why shows.
-fn shown(name: &[u8], p: usize, kind: u32) {
-    show::word(name);
-    show::decimal(p);
-    show::word(b" ");
-    show::kind(kind);
+fn shown(rt: &impl Print, name: &[u8], p: usize, kind: u32) -> io::Result<()> {
+    show::word(rt, name)?;
+    show::decimal(rt, p)?;
+    show::word(rt, b" ")?;
+    show::kind(rt, kind)
 }
 
 // Why a row of a book's list is as it is.
-pub fn reason(b: &[u8], row: usize) {
+pub fn reason(rt: &impl Print, b: &[u8], row: usize) -> io::Result<()> {
     match why::why(b, row) {
-        Why::Met(p, k) => shown(b"met ", p, k),
-        Why::NoObject => show::word(b"no object of the class"),
-        Why::Elsewhere(p, k) => shown(b"elsewhere ", p, k),
-        Why::Nowhere => show::word(b"nowhere"),
-        Why::Refused(f, p) => show::refused(f, p),
+        Why::Met(p, k) => shown(rt, b"met ", p, k),
+        Why::NoObject => show::word(rt, b"no object of the class"),
+        Why::Elsewhere(p, k) => shown(rt, b"elsewhere ", p, k),
+        Why::Nowhere => show::word(rt, b"nowhere"),
+        Why::Refused(f, p) => show::refused(rt, f, p),
     }
 }
 
 // The same of a dump's book.
-pub fn reason_of_dump(d: &[u8], row: usize) {
+pub fn reason_of_dump(rt: &impl Print, d: &[u8], row: usize) -> io::Result<()> {
     let mut space = [0u8; 131072];
     match layouts::read(d, &mut space) {
-        Outcome::Refused(f, place) => show::refused(f, place),
+        Outcome::Refused(f, place) => show::refused(rt, f, place),
         Outcome::Accepted(n) => {
             if space.len() < n {
-                return show::word(b"BOOK LONGER THAN THE SLICE");
+                return show::word(rt, b"BOOK LONGER THAN THE SLICE");
             }
-            reason(&space[0..n], row);
+            reason(rt, &space[0..n], row)
         }
     }
 }

@@ -9,11 +9,17 @@ mod link;
 mod run;
 mod show;
 
-fn main() {
-    let mut buf = [0u8; 524288];
-    let n = io::read_full(0, &mut buf);
-    if n == buf.len() {
-        return show::word(b"THE CASES ARE TOO LONG\n");
+use std::io;
+use std::io::Read;
+
+// What the cases have to be shorter than.
+const ROOM: u64 = 524288;
+
+fn main(rt: HostRuntime) -> io::Result<()> {
+    let mut cases = Vec::new(rt.alloc());
+    let n = rt.stdin().take(ROOM).read_to_end(&mut cases)?;
+    if n as u64 == ROOM {
+        return show::word(&rt, b"THE CASES ARE TOO LONG\n");
     }
-    run::lines(&buf[..n]);
+    run::lines(&rt, cases.as_slice())
 }

@@ -1,78 +1,79 @@
 use elements::{Fault, Head, Read, Run, number_of};
-use libc::STDOUT_FILENO;
+use std::io;
 
-pub fn word(text: &[u8]) {
-    io::write_all(STDOUT_FILENO, text);
+pub fn word(rt: &impl Print, text: &[u8]) -> io::Result<()> {
+    rt.write_all(text)
 }
 
-pub fn decimal(n: usize) {
-    io::print_decimal(STDOUT_FILENO, n as u64);
+pub fn decimal(rt: &impl Print, n: usize) -> io::Result<()> {
+    rt.print(n)
 }
 
-pub fn kind(k: u32) {
-    io::print_hex(STDOUT_FILENO, k as u64, 4);
+pub fn kind(rt: &impl Print, k: u32) -> io::Result<()> {
+    print!(rt; "{k:04x}")
 }
 
 // A byte in hex.
-fn byte(b: u8) {
-    io::print_hex(STDOUT_FILENO, b as u64, 2);
+fn byte(rt: &impl Print, b: u8) -> io::Result<()> {
+    print!(rt; "{b:02x}")
 }
 
 // A number of 32 bits in hex.
-pub fn digest(n: u64) {
-    io::print_hex(STDOUT_FILENO, n, 8);
+pub fn digest(rt: &impl Print, n: u64) -> io::Result<()> {
+    print!(rt; "{n:08x}")
 }
 
 // The bytes in hex.
-pub fn bytes(s: &[u8]) {
+pub fn bytes(rt: &impl Print, s: &[u8]) -> io::Result<()> {
     let mut i = 0;
     while i < s.len() {
-        byte(s[i]);
+        byte(rt, s[i])?;
         i += 1;
     }
+    Ok(())
 }
 
-pub fn refused(f: Fault, place: usize) {
-    word(b"refused ");
-    decimal(number_of(f) as usize);
-    word(b" at ");
-    decimal(place);
+pub fn refused(rt: &impl Print, f: Fault, place: usize) -> io::Result<()> {
+    word(rt, b"refused ")?;
+    decimal(rt, number_of(f) as usize)?;
+    word(rt, b" at ")?;
+    decimal(rt, place)
 }
 
-pub fn read(r: Read) {
+pub fn read(rt: &impl Print, r: Read) -> io::Result<()> {
     match r {
-        Read::Refused(f, p) => refused(f, p),
+        Read::Refused(f, p) => refused(rt, f, p),
         Read::Took(negative, m, next) => {
             if negative {
-                word(b"-");
+                word(rt, b"-")?;
             }
-            decimal(m as usize);
-            word(b" next ");
-            decimal(next);
+            decimal(rt, m as usize)?;
+            word(rt, b" next ")?;
+            decimal(rt, next)
         }
     }
 }
 
-pub fn head(h: Head) {
+pub fn head(rt: &impl Print, h: Head) -> io::Result<()> {
     match h {
-        Head::No(f, p) => refused(f, p),
+        Head::No(f, p) => refused(rt, f, p),
         Head::At(b, a, e) => {
-            word(b"tag ");
-            byte(b);
-            word(b" from ");
-            decimal(a);
-            word(b" to ");
-            decimal(e);
+            word(rt, b"tag ")?;
+            byte(rt, b)?;
+            word(rt, b" from ")?;
+            decimal(rt, a)?;
+            word(rt, b" to ")?;
+            decimal(rt, e)
         }
     }
 }
 
-pub fn run(r: Run) {
+pub fn run(rt: &impl Print, r: Run) -> io::Result<()> {
     match r {
-        Run::Refused(f, p) => refused(f, p),
+        Run::Refused(f, p) => refused(rt, f, p),
         Run::Ends(e) => {
-            word(b"sealed to ");
-            decimal(e);
+            word(rt, b"sealed to ")?;
+            decimal(rt, e)
         }
     }
 }

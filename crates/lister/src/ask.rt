@@ -1,7 +1,8 @@
 // What is asked for, by the words that the program was started with.
-ghost use Rattle.std.specs.Prelude.{◌≤◌};
+ghost use Rattle.std.specs.Prelude.{◌≤◌, length};
 
 use rules::same_bytes;
+use std::env::{Env, FillError};
 
 #[derive(Clone, Copy)]
 pub enum Question {
@@ -38,25 +39,37 @@ fn number(text: &[u8]) -> usize {
     n
 }
 
+// Whether the program was started with a word i; its own name is word 0.
+fn is_given(rt: &impl Env, i: usize) -> bool {
+    !matches!(rt.arg(i, &mut []), Err(FillError::NotPresent))
+}
+
+// Word i at the start of the text, and its length; 0 if it is not given, or longer than the text.
+fn given(rt: &impl Env, i: usize, text: &mut [u8]) -> usize
+    ensures { result ≤ length text.new }
+{
+    rt.arg(i, text).unwrap_or(0)
+}
+
 // `where`, or else `why`.
-fn is_where() -> bool {
+fn is_where(rt: &impl Env) -> bool {
     let mut text = [0u8; 8];
-    let n = os::arg(1, &mut text);
+    let n = given(rt, 1, &mut text);
     same_bytes(&text, 0, n, b"where", 0, 5)
 }
 
-pub fn asked() -> Question {
-    if os::arg_count() < 2 {
+pub fn asked(rt: &impl Env) -> Question {
+    if !is_given(rt, 1) {
         return Question::List;
     }
-    if is_where() {
+    if is_where(rt) {
         return Question::Where;
     }
-    if os::arg_count() < 3 {
+    if !is_given(rt, 2) {
         return Question::Whys;
     }
     let mut text = [0u8; 64];
-    let n = os::arg(2, &mut text);
+    let n = given(rt, 2, &mut text);
     if n == 0 {
         // an empty word, or one that is longer than the text
         return Question::Row(NO_ROW);

@@ -12,51 +12,71 @@ mod show;
 
 use ask::Question;
 use layouts::Outcome;
-use libc::STDIN_FILENO;
+use std::io;
+use std::io::Read;
 
 // What is asked of a dump and its book, the list in lent numbers.
-fn answer(asked: Question, dump: &[u8], book: &[u8], rows: &mut [u32]) {
+fn answer(
+    rt: &impl Print,
+    asked: Question,
+    dump: &[u8],
+    book: &[u8],
+    rows: &mut [u32],
+) -> io::Result<()> {
     match asked {
-        Question::Row(n) => show::reason(why::why(book, n)),
-        Question::List => listed(book, rows, false),
-        Question::Whys => listed(book, rows, true),
-        Question::Where => places::objects(dump, book),
+        Question::Row(n) => show::reason(rt, why::why(book, n)),
+        Question::List => listed(rt, book, rows, false),
+        Question::Whys => listed(rt, book, rows, true),
+        Question::Where => places::objects(rt, dump, book),
     }
 }
 
-fn listed(book: &[u8], rows: &mut [u32], whys: bool) {
+fn listed(rt: &impl Print, book: &[u8], rows: &mut [u32], whys: bool) -> io::Result<()> {
     match links::list(book, rows) {
-        Outcome::Refused(f, p) => show::refused(f, p),
-        Outcome::Accepted(n) => show::links(book, &rows[..n], whys),
+        Outcome::Refused(f, p) => show::refused(rt, f, p),
+        Outcome::Accepted(n) => show::links(rt, book, &rows[..n], whys),
     }
 }
 
 // The same of a dump, its book in lent bytes.
-fn of_dump(asked: Question, dump: &[u8], book: &mut [u8], rows: &mut [u32]) {
+fn of_dump(
+    rt: &impl Print,
+    asked: Question,
+    dump: &[u8],
+    book: &mut [u8],
+    rows: &mut [u32],
+) -> io::Result<()> {
     match layouts::read(dump, book) {
-        Outcome::Refused(f, p) => show::refused(f, p),
-        Outcome::Accepted(n) => answer(asked, dump, &book[..n], rows),
+        Outcome::Refused(f, p) => show::refused(rt, f, p),
+        Outcome::Accepted(n) => answer(rt, asked, dump, &book[..n], rows),
     }
 }
 
 // The same of a book, the dump that it is written as in lent bytes.
-fn of_book(asked: Question, book: &[u8], dump: &mut [u8], rows: &mut [u32]) {
+fn of_book(
+    rt: &impl Print,
+    asked: Question,
+    book: &[u8],
+    dump: &mut [u8],
+    rows: &mut [u32],
+) -> io::Result<()> {
     match layouts::write(book, dump) {
-        Outcome::Refused(f, p) => show::refused(f, p),
-        Outcome::Accepted(n) => answer(asked, &dump[..n], book, rows),
+        Outcome::Refused(f, p) => show::refused(rt, f, p),
+        Outcome::Accepted(n) => answer(rt, asked, &dump[..n], book, rows),
     }
 }
 
-fn main() {
+fn main(rt: HostRuntime) -> io::Result<()> {
     // one byte more than a book may have: of a longer input the first 131,073 bytes are refused like the whole
-    let mut card = [0u8; 131073];
-    let n = io::read_full(STDIN_FILENO, &mut card);
+    let mut card = Vec::new(rt.alloc());
+    rt.stdin().take(131073).read_to_end(&mut card)?;
+    let card = card.as_slice();
     // the other of the two, its book or its dump
     let mut other = [0u8; 65536];
     let mut rows = [0u32; 16384];
-    let asked = ask::asked();
-    if ask::of_a_book(asked, &card[..n]) {
-        return of_book(asked, &card[..n], &mut other, &mut rows);
+    let asked = ask::asked(&rt);
+    if ask::of_a_book(asked, card) {
+        return of_book(&rt, asked, card, &mut other, &mut rows);
     }
-    of_dump(asked, &card[..n], &mut other, &mut rows);
+    of_dump(&rt, asked, card, &mut other, &mut rows)
 }

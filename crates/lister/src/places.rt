@@ -4,19 +4,20 @@ ghost use Rattle.std.specs.Prelude.{◌+◌, ◌≤◌, length};
 use crate::show;
 use links::next_object;
 use rules::{record_end, word};
+use std::io;
 
 // "private, public and trusted public keys, secret keys, certificates, trusted and useful certificates, data containers, authentication objects"
-fn class(entry: u8) {
+fn class(rt: &impl Print, entry: u8) -> io::Result<()> {
     match entry {
-        0xa0 => show::word(b" private-key "),
-        0xa1 => show::word(b" public-key "),
-        0xa2 => show::word(b" trusted-public-key "),
-        0xa3 => show::word(b" secret-key "),
-        0xa4 => show::word(b" certificate "),
-        0xa5 => show::word(b" trusted-certificate "),
-        0xa6 => show::word(b" useful-certificate "),
-        0xa7 => show::word(b" data-container "),
-        _ => show::word(b" authentication-object "),
+        0xa0 => show::word(rt, b" private-key "),
+        0xa1 => show::word(rt, b" public-key "),
+        0xa2 => show::word(rt, b" trusted-public-key "),
+        0xa3 => show::word(rt, b" secret-key "),
+        0xa4 => show::word(rt, b" certificate "),
+        0xa5 => show::word(rt, b" trusted-certificate "),
+        0xa6 => show::word(rt, b" useful-certificate "),
+        0xa7 => show::word(rt, b" data-container "),
+        _ => show::word(rt, b" authentication-object "),
     }
 }
 
@@ -47,25 +48,26 @@ fn file_at(dump: &[u8], n: usize) -> usize
     dump.len()
 }
 
-fn path(dump: &[u8], p: usize, e: usize)
+fn path(rt: &impl Print, dump: &[u8], p: usize, e: usize) -> io::Result<()>
     requires { e ≤ length dump.now }
 {
     let mut i = p;
     while i < e {
-        show::byte(dump[i]);
+        show::byte(rt, dump[i])?;
         i += 1;
     }
+    Ok(())
 }
 
 // The offset in the file, and the place in the dump, in which the file starts at p.
-fn offsets(offset: usize, p: usize)
+fn offsets(rt: &impl Print, offset: usize, p: usize) -> io::Result<()>
     requires { (offset ≤ 65535) × (p ≤ 262144) }
 {
-    show::word(b" ");
-    show::decimal(offset as u64);
-    show::word(b" ");
-    show::decimal((p + offset) as u64);
-    show::word(b"\n");
+    show::word(rt, b" ")?;
+    show::decimal(rt, offset as u64)?;
+    show::word(rt, b" ")?;
+    show::decimal(rt, (p + offset) as u64)?;
+    show::word(rt, b"\n")
 }
 
 fn size(length: u8) -> usize
@@ -82,25 +84,25 @@ fn offset_of(low: u8, high: u8) -> usize
 }
 
 // The file by its number and its path, `-` for EF.OD, and the offsets.
-fn place(dump: &[u8], n: usize, offset: usize)
+fn place(rt: &impl Print, dump: &[u8], n: usize, offset: usize) -> io::Result<()>
     requires { (length dump.now ≤ 131072) × (offset ≤ 65535) }
 {
-    show::decimal(n as u64);
-    show::word(b" ");
+    show::decimal(rt, n as u64)?;
+    show::word(rt, b" ")?;
     let i = file_at(dump, n);
     if n == 0 {
-        show::word(b"-");
-        return offsets(offset, i + 4);
+        show::word(rt, b"-")?;
+        return offsets(rt, offset, i + 4);
     }
     if dump.len() < i + 5 {
-        return show::word(b"\n");
+        return show::word(rt, b"\n");
     }
     let e = i + 5 + size(dump[i + 4]);
     if dump.len() < e {
-        return show::word(b"\n");
+        return show::word(rt, b"\n");
     }
-    path(dump, i + 5, e);
-    offsets(offset, e);
+    path(rt, dump, i + 5, e)?;
+    offsets(rt, offset, e)
 }
 
 fn count(book: &[u8]) -> usize
@@ -119,7 +121,7 @@ fn count(book: &[u8]) -> usize
     n
 }
 
-fn lines(dump: &[u8], book: &[u8])
+fn lines(rt: &impl Print, dump: &[u8], book: &[u8]) -> io::Result<()>
     requires { (length dump.now ≤ 131072) × (length book.now ≤ 131072) }
 {
     let mut i = 0;
@@ -127,26 +129,32 @@ fn lines(dump: &[u8], book: &[u8])
     while i + 4 <= book.len() {
         let j = next_object(book, i);
         if book.len() < j + 10 {
-            return;
+            return Ok(());
         }
-        show::decimal(k);
-        class(book[j + 4]);
-        place(dump, word(book, j + 6), offset_of(book[j + 8], book[j + 9]));
+        show::decimal(rt, k)?;
+        class(rt, book[j + 4])?;
+        place(
+            rt,
+            dump,
+            word(book, j + 6),
+            offset_of(book[j + 8], book[j + 9]),
+        )?;
         k += 1;
         i = record_end(book, j);
     }
+    Ok(())
 }
 
 // "objects", their number, and a line for each; of a card's dump and its book.
-pub fn objects(dump: &[u8], book: &[u8]) {
+pub fn objects(rt: &impl Print, dump: &[u8], book: &[u8]) -> io::Result<()> {
     if 131072 < dump.len() {
-        return;
+        return Ok(());
     }
     if 131072 < book.len() {
-        return;
+        return Ok(());
     }
-    show::word(b"objects ");
-    show::decimal(count(book) as u64);
-    show::word(b"\n");
-    lines(dump, book);
+    show::word(rt, b"objects ")?;
+    show::decimal(rt, count(book) as u64)?;
+    show::word(rt, b"\n")?;
+    lines(rt, dump, book)
 }
