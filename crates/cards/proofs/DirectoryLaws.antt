@@ -23,9 +23,10 @@ use Rattle.rules.specs.RenderLaws.{home}
 use Rattle.cards.specs.Card as card
 use Rattle.cards.specs.Card.{in_file, in_files}
 use Rattle.rules.specs.FileLayouts as filing
-use Rattle.cards.specs.FrameLaws.{Fit, Sorted, transparent, of_records, NamedFile, held, named_held, ChainReads, chain, chain_sound, Follows, both, pair, FollowReads, follows, follow_sound, frames_none, frames_more}
-use Rattle.cards.specs.PartLaws.{all_of, count_file, count_records, directory_law}
-use Rattle.cards.specs.RecordLaws.{linear_home, linear_sound, linear_complete}
+use Rattle.cards.specs.Fits.{Fit, Sorted, transparent, of_records}
+use Rattle.cards.proofs.FrameLaws.{NamedFile, held, named_held, ChainReads, chain, chain_sound, Follows, both, pair, FollowReads, follows, follow_sound, frames_none, frames_more}
+use Rattle.cards.proofs.PartLaws.{all_of, count_file, count_records, directory_law}
+use Rattle.cards.proofs.RecordLaws.{linear_home, linear_sound, linear_complete}
 
 -- what directories come to, the nth from a place on, after k objects
 pub record DirFacts (s : List ℕ) (n : ℕ) (ms : List Name) (k at : ℕ) (rs : List Rec) (ps : List ℕ) : Type 0 where

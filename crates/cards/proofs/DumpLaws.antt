@@ -24,13 +24,13 @@ use Rattle.rules.specs.FaultLaws.{Told}
 use Rattle.rules.specs.GrammarLaws.{close, marks_append, Facts, Reads, refuses, takes}
 use Rattle.cards.specs.Card as card
 use Rattle.cards.specs.Card.{in_od, in_files, Card, dump_of, book_of, Meets}
-use Rattle.cards.specs.CardKinds.{od_names, card_ids}
+use Rattle.cards.proofs.CardKinds.{od_names, card_ids}
 use Rattle.rules.specs.Pays.{ids_of}
-use Rattle.cards.specs.OnceLaws.{New, apart_none, once_sound, once_complete, entry_place_lem, IdsRead, again, new, ids_sound, ids_complete}
-use Rattle.cards.specs.FrameLaws.{Frame, by_frame, held, frame_held, Chain, ChainReads, no_chain, chain, chain_sound, Follows, FollowReads, no_follow, follows, follow_sound}
-use Rattle.cards.specs.PartLaws.{cia_law, od_law, dir_law, all_of}
-use Rattle.cards.specs.DirectoryLaws.{DirReads, no_dir, dirs, dirs_sound, dirs_complete}
-pub use Rattle.cards.specs.DirectoryLaws.{DirFacts, dirs_read}
+use Rattle.cards.proofs.OnceLaws.{New, apart_none, once_sound, once_complete, entry_place_lem, IdsRead, again, new, ids_sound, ids_complete}
+use Rattle.cards.proofs.FrameLaws.{Frame, by_frame, held, frame_held, Chain, ChainReads, no_chain, chain, chain_sound, Follows, FollowReads, no_follow, follows, follow_sound}
+use Rattle.cards.proofs.PartLaws.{cia_law, od_law, dir_law, all_of}
+use Rattle.cards.proofs.DirectoryLaws.{DirReads, no_dir, dirs, dirs_sound, dirs_complete}
+pub use Rattle.cards.proofs.DirectoryLaws.{DirFacts, dirs_read}
 
 -- a file's records are the same wherever it starts
 cia_home : (p : ℕ) (x : (card.cia).Of) → (card.cia).book (opening 0 p) x ≡ (card.cia).book origin x

@@ -24,8 +24,9 @@ use Rattle.rules.specs.Layouts as layouts
 use Rattle.rules.specs.Entries as entries
 use Rattle.rules.specs.FileLayouts as filing
 use Rattle.cards.specs.Card as card
-use Rattle.cards.specs.FrameLaws.{bytes_are, Fit, spent, onto}
-use Rattle.cards.specs.PartLaws.{all_of}
+use Rattle.cards.specs.Fits.{Fit, spent, onto}
+use Rattle.cards.proofs.FrameLaws.{bytes_are}
+use Rattle.cards.proofs.PartLaws.{all_of}
 
 -- what fits does not run over
 pub fit_high : {s : List ℕ} {stop at : ℕ} → Fit s stop at → at ≤ stop

@@ -17,7 +17,7 @@ use Rattle.rules.specs.Entries as entries
 use Rattle.rules.specs.FileLayouts as filing
 use Rattle.rules.specs.Render.{r_cia, r_od, r_directory, r_record_in, r_linear, r_named, r_file, r_directories, r_dir, framing, used, render}
 use Rattle.cards.specs.Card as card
-use Rattle.cards.specs.CardKinds.{od_names}
+use Rattle.cards.proofs.CardKinds.{od_names}
 use Rattle.cards.specs.Card.{Card, Meets, dump_of, book_of}
 
 -- a file in a record of the dump, behind these bytes: its places count from its own first byte
