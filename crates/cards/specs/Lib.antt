@@ -1,16 +1,6 @@
 pub mod Card
 pub mod Blocks
-pub mod CardKinds
-pub mod CardRender
-pub mod OnceLaws
-pub mod FrameLaws
-pub mod PartLaws
-pub mod RecordLaws
-pub mod DirectoryLaws
-pub mod DumpLaws
-pub mod WriteLaws
-pub mod Demand2
-pub mod CardExample
 pub mod Without
 pub mod Flags
 pub mod Jumps
+pub mod Fits

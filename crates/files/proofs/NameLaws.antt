@@ -29,7 +29,7 @@ use Rattle.rules.specs.Counted.{listed}
 use Rattle.rules.specs.Entries.{object, item, inline, known_tag, context_tag}
 use Rattle.rules.proofs.EntryLaws.{known_low, unknown, entry_body_lem, entry_law, entry_renders}
 use Rattle.rules.specs.Files.{Name, names_of, paths, met, equal, first_again, filled, fill, entry_body, is_path, is_naming, entry_place}
-use Rattle.cards.specs.CardKinds.{objects_names}
+use Rattle.cards.proofs.CardKinds.{objects_names}
 use Rattle.files.specs.Filing.{PathsTold}
 use Rattle.files.specs.declared.scan.Key.TheVariants.{Path}
 use Rattle.files.specs.Scan.{bears, key_at}

@@ -21,7 +21,7 @@ use Rattle.rules.specs.Files.{Answer, equal, read_dump}
 use Rattle.rules.specs.Book.{encode, records}
 use Rattle.rules.specs.Render.{render}
 use Rattle.rules.specs.Write.{written, no_book, confirmed, write_dump}
-use Rattle.cards.specs.Demand2.{refused_if_none, none_if_refused, written_then_read, book_most}
+use Rattle.cards.proofs.Demand2.{refused_if_none, none_if_refused, written_then_read, book_most}
 use Rattle.reader.specs.Stages.{Reads, reads, falls}
 use Rattle.writer.specs.MakingFiles.{Fitted, fits, beyond}
 use Rattle.layouts.specs.Accept.{confirming, Confirms, Tried, holds, none, BookTold}

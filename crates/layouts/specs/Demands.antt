@@ -14,7 +14,7 @@ use Rattle.rules.specs.Files.{Answer, accepted, refused, read_dump}
 use Rattle.rules.specs.Book.{encode}
 use Rattle.rules.specs.Write.{Written, written, no_book, write_dump}
 use Rattle.rules.specs.Meaning.{Has, AcceptedBook}
-use Rattle.cards.specs.Demand2.{place_in_dump, fault_of_a_dump, read_then_written, written_then_read, refused_if_none, none_if_refused}
+use Rattle.cards.proofs.Demand2.{place_in_dump, fault_of_a_dump, read_then_written, written_then_read, refused_if_none, none_if_refused}
 use Rattle.layouts.specs.GivingLaws.{unhanded, handed_first, fitting, too_long}
 use Rattle.layouts.specs.Service.{Served, served, giving, by_answer, reading, ReadTold, by_written, writing, WriteTold}
 

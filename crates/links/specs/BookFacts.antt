@@ -4,8 +4,8 @@ use Rattle.std.proofs.Common.{arith}
 use Rattle.elements.specs.Lists.{Bytes}
 use Rattle.rules.specs.Book.{records}
 use Rattle.rules.specs.Write.{write_dump}
-use Rattle.cards.specs.WriteLaws.{records_of_lem}
-use Rattle.cards.specs.Demand2.{read_then_written, refused_if_none, book_most}
+use Rattle.cards.proofs.WriteLaws.{records_of_lem}
+use Rattle.cards.proofs.Demand2.{read_then_written, refused_if_none, book_most}
 use Rattle.layouts.specs.Accept.{BookTold}
 use Rattle.links.specs.Finding.{Within, objects_at}
 use Rattle.links.specs.FindingLaws.{from_start}

@@ -11,7 +11,7 @@ use Rattle.rules.specs.declared.outcome.Outcome.TheVariants.{Refused}
 use Rattle.rules.specs.Book.{records}
 use Rattle.rules.specs.Write.{Written, written, no_book, write_dump}
 use Rattle.rules.specs.Meaning.{AcceptedBook}
-use Rattle.cards.specs.Demand2.{written_then_read, none_if_refused}
+use Rattle.cards.proofs.Demand2.{written_then_read, none_if_refused}
 use Rattle.layouts.specs.Service.{served, giving}
 use Rattle.layouts.specs.Demands.{Short, NoBook, short, no_book_lem}
 use Rattle.links.specs.declared.fields.Place.TheVariants as place

@@ -17,10 +17,12 @@ use Rattle.rules.specs.Blocks.{closing}
 use Rattle.rules.specs.Grammar.{origin}
 use Rattle.cards.specs.Card as card
 use Rattle.cards.specs.Card.{Card, Meets, dump_of, book_of}
-use Rattle.cards.specs.Blocks.{Blocks, nothing, other, dir_blocks}
-use Rattle.cards.specs.Without.{without, book_without, meets_without}
-use Rattle.cards.specs.DumpLaws.{accepted_card}
-use Rattle.cards.specs.Demand2.{accepted_cards}
+use Rattle.cards.specs.Blocks.{Blocks, nothing, other}
+use Rattle.cards.proofs.BlockLaws.{dir_blocks}
+use Rattle.cards.specs.Without.{without}
+use Rattle.cards.proofs.WithoutLaws.{book_without, meets_without}
+use Rattle.cards.proofs.DumpLaws.{accepted_card}
+use Rattle.cards.proofs.Demand2.{accepted_cards}
 use Rattle.layouts.specs.Service.{Served, served, giving}
 use Rattle.links.specs.Links.{past, held_from, objects_from, objects_of, links, listed, none, object_at, field_in, field_of}
 use Rattle.links.specs.WholeLaws.{untrue, held_none}

@@ -12,8 +12,8 @@ use Rattle.rules.specs.Reading.{Rec}
 use Rattle.rules.specs.Book.{encode}
 use Rattle.rules.specs.Files.{accepted, read_dump}
 use Rattle.cards.specs.Card.{Card, Meets, dump_of, book_of}
-use Rattle.cards.specs.WriteLaws.{records_of_lem}
-use Rattle.cards.specs.Demand2.{accepted_cards, read_then_written}
+use Rattle.cards.proofs.WriteLaws.{records_of_lem}
+use Rattle.cards.proofs.Demand2.{accepted_cards, read_then_written}
 use Rattle.layouts.specs.Service.{served, giving}
 use Rattle.layouts.specs.GivingLaws.{handed, handed_first, fitting, too_long}
 use Rattle.links.specs.Links.{Object, objects_of, Reply, by, missing, Row, row, links, number, listed, chosen, object_at}

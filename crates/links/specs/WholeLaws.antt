@@ -17,9 +17,10 @@ use Rattle.rules.specs.Blocks.{closing, inner, info_inner}
 use Rattle.rules.specs.Grammar.{origin}
 use Rattle.cards.specs.Card as card
 use Rattle.cards.specs.Card.{Card, book_of, records_of, front, behind, identifiers}
-use Rattle.cards.specs.CardKinds.{certificate_once, own_once, nested, occurs}
-use Rattle.cards.specs.Blocks.{Blocks, nothing, other, whole, records_are, front_entry, behind_inner, card_blocks}
-use Rattle.cards.specs.DumpLaws.{accepted_card}
+use Rattle.cards.proofs.CardKinds.{certificate_once, own_once, nested, occurs}
+use Rattle.cards.specs.Blocks.{Blocks, nothing, other, whole}
+use Rattle.cards.proofs.BlockLaws.{records_are, front_entry, behind_inner, card_blocks}
+use Rattle.cards.proofs.DumpLaws.{accepted_card}
 use Rattle.links.specs.Links.{Held, held, Object, past, held_from, objects_from, objects_of, certifying, id_kind, chosen, object_at, states, States}
 use Rattle.links.specs.RisingLaws.{not_closing}
 

@@ -14,7 +14,7 @@ use Rattle.reader.specs.declared.frame.Framed.{Framed}
 use Rattle.rules.specs.Reading.{Rec, Res, took, fails, also}
 use Rattle.rules.specs.Parts.{counted}
 use Rattle.rules.specs.Files.{Name, File, framed, files, frames, named_frame, names_of, two, file_of, directories}
-use Rattle.cards.specs.FrameLaws.{Sorted}
+use Rattle.cards.specs.Fits.{Sorted}
 use Rattle.rules.specs.Book.{encode}
 use Rattle.files.specs.Filing.{DidObjects, fell_objects}
 use Rattle.files.specs.Scan.{Lies, Holds, NextName, last, found, NameTold}

@@ -17,7 +17,8 @@ use Rattle.reader.specs.declared.frame.Framed.{Framed}
 use Rattle.reader.specs.declared.frame.Framed.TheVariants as file
 use Rattle.reader.specs.declared.frame.Chain.TheVariants.{Sound, Unsound}
 use Rattle.rules.specs.Files.{File, FrameRead, framed, broken, Files, files, broken_at, two, record_end, fits, frame_of, file_in, frame, named_file, named_frame, whole, cons_file, more_files, frames}
-use Rattle.cards.specs.FrameLaws.{Sorted, by_sort_lem}
+use Rattle.cards.specs.Fits.{Sorted}
+use Rattle.cards.proofs.FrameLaws.{by_sort_lem}
 use Rattle.reader.specs.Frame.{Spanned, framed_as, Inner, Path, FramesTold}
 
 no_from : {x : Fault} {p k a e : ℕ} → No x p ≡ From k a e → ⊥

@@ -18,8 +18,8 @@ use Rattle.rules.specs.declared.site.Site.{Site}
 use Rattle.rules.specs.Grammar.{site_of}
 use Rattle.rules.specs.Parts.{to_end}
 use Rattle.rules.specs.Files.{two, record_end, directory, record_in, linear}
-use Rattle.cards.specs.FrameLaws.{Fit, spent, onto, Sorted, transparent, of_records}
-use Rattle.cards.specs.RecordLaws.{fit_high, record_closes}
+use Rattle.cards.specs.Fits.{Fit, spent, onto, Sorted, transparent, of_records}
+use Rattle.cards.proofs.RecordLaws.{fit_high, record_closes}
 use Rattle.objects.specs.RepeatLaws.{Going, going_none, going_step, going_stop, going_break}
 use Rattle.files.specs.Filing.{DidObjects, did_objects, fell_objects, filled_up}
 use Rattle.files.specs.ObjectsLaws.{objects_open, objects_small, objects_few, objects_same, objects_kept, objects_front}

@@ -39,9 +39,9 @@ use Rattle.rules.specs.Book.{encode}
 use Rattle.rules.specs.LookLaws.{Laid, size, laid_append}
 use Rattle.rules.proofs.ReadLaws.{cia_kept, od_kept}
 use Rattle.cards.specs.Card as card
-use Rattle.cards.specs.DumpLaws.{dirs_read}
-use Rattle.cards.specs.CardRender.{files_renders}
-use Rattle.cards.specs.WriteLaws.{book_bound}
+use Rattle.cards.proofs.DumpLaws.{dirs_read}
+use Rattle.cards.proofs.CardRender.{files_renders}
+use Rattle.cards.proofs.WriteLaws.{book_bound}
 use Rattle.rules.specs.BookLaws.{book_size}
 use Rattle.objects.specs.Did.{Did, did, fell}
 use Rattle.files.specs.Filing.{DidObjects, fell_objects, objects_of, DidEntries, PathsTold}

@@ -1,7 +1,7 @@
 ghost use Rattle.std.specs.Prelude.{◌+◌, ◌*◌, ◌≤◌};
 ghost use Rattle.rules.specs.Files.{linear};
 ghost use Rattle.objects.specs.Did.{InContainer};
-ghost use Rattle.cards.specs.FrameLaws.{Fit, Sorted};
+ghost use Rattle.cards.specs.Fits.{Fit, Sorted};
 ghost use Rattle.files.specs.Filing.{DidObjects};
 ghost use Rattle.reader.specs.Linear.{records_in, by_kind};
 

@@ -17,7 +17,8 @@ use Rattle.rules.specs.Blocks.{closing, every, every_kind, inner, info_inner}
 use Rattle.rules.specs.Layouts as layouts
 use Rattle.cards.specs.Card as card
 use Rattle.cards.specs.Card.{Card, book_of, front, behind}
-use Rattle.cards.specs.Blocks.{Blocks, nothing, other, whole, behind_inner, card_blocks}
+use Rattle.cards.specs.Blocks.{Blocks, nothing, other, whole}
+use Rattle.cards.proofs.BlockLaws.{behind_inner, card_blocks}
 use Rattle.links.specs.Links.{Held, held, Object, past, objects_from, objects_of, states, chosen, object_at, States}
 use Rattle.links.specs.RisingLaws.{not_closing}
 use Rattle.links.specs.WholeLaws.{held_all, untrue, inner_first, held_behind, held_none}

@@ -11,8 +11,8 @@ use Rattle.rules.specs.Files.{accepted, read_dump}
 use Rattle.rules.specs.Book.{encode}
 use Rattle.rules.specs.Meaning.{AcceptedBook}
 use Rattle.cards.specs.Card.{Card, Meets, dump_of, book_of}
-use Rattle.cards.specs.Demand2.{accepted_cards, read_then_written, refused_if_none}
-use Rattle.cards.specs.WriteLaws.{records_of_lem}
+use Rattle.cards.proofs.Demand2.{accepted_cards, read_then_written, refused_if_none}
+use Rattle.cards.proofs.WriteLaws.{records_of_lem}
 use Rattle.links.specs.Links.{Held, held, Object, objects_of, id_kind, found, first_of, Reply, by, missing, Row, links, Chosen, nobody, chosen, object_at, States}
 use Rattle.links.specs.Finding.{id_in}
 use Rattle.links.specs.AnswerLaws.{rows_answered, rows_stated}

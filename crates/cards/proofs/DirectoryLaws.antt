@@ -10,6 +10,7 @@ use Rattle.std.proofs.Math.Seq.{slice, slice_empty, length-slice}
 use Rattle.elements.specs.declared.fault.Fault.{Fault}
 use Rattle.elements.specs.Lists.{Bytes, Begins, begins}
 use Rattle.elements.specs.Record.{record_bytes}
+use Rattle.rules.proofs.SoundFiles.{directory_fine, directory_sound}
 use Rattle.rules.specs.Reading.{Rec, Res, took, fails, also}
 use Rattle.rules.specs.Parts.{counted}
 use Rattle.rules.specs.Files as files
@@ -23,9 +24,10 @@ use Rattle.rules.specs.RenderLaws.{home}
 use Rattle.cards.specs.Card as card
 use Rattle.cards.specs.Card.{in_file, in_files}
 use Rattle.rules.specs.FileLayouts as filing
-use Rattle.cards.specs.FrameLaws.{Fit, Sorted, transparent, of_records, NamedFile, held, named_held, ChainReads, chain, chain_sound, Follows, both, pair, FollowReads, follows, follow_sound, frames_none, frames_more}
-use Rattle.cards.specs.PartLaws.{all_of, count_file, count_records, directory_law}
-use Rattle.cards.specs.RecordLaws.{linear_home, linear_sound, linear_complete}
+use Rattle.cards.specs.Fits.{Fit, Sorted, transparent, of_records}
+use Rattle.cards.proofs.FrameLaws.{NamedFile, held, named_held, ChainReads, chain, chain_sound, Follows, both, pair, FollowReads, follows, follow_sound, frames_none, frames_more}
+use Rattle.cards.proofs.PartLaws.{all_of, count_file, count_records, directory_law}
+use Rattle.cards.proofs.RecordLaws.{linear_home, linear_sound, linear_complete}
 
 -- what directories come to, the nth from a place on, after k objects
 pub record DirFacts (s : List ℕ) (n : ℕ) (ms : List Name) (k at : ℕ) (rs : List Rec) (ps : List ℕ) : Type 0 where
@@ -74,7 +76,7 @@ module _ (s : List ℕ) (bytes : Bytes s) (small : length s ≤ 32768) (n : ℕ)
     high = omega arith;
     file = inl;
     bytes = λ x. refl;
-    book = λ v p x. sym (home ((filing.directory m.tag).lawful (filing.directory_fine m.tag)).renders n p x);
+    book = λ v p x. sym (home ((directory_sound m.tag).lawful (directory_fine m.tag)).renders n p x);
     meets = λ x y. y;
     holds = λ x. sym (count_file m.tag (opening n 0) x);
     sound = λ f e _ h l k i. rw e ((directory_law s bytes small n f.start m.tag k i).sound 0 f.start f.stop (omega arith) h l);

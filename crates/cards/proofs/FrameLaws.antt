@@ -21,6 +21,7 @@ use Rattle.rules.specs.ElementLaws.{parted}
 use Rattle.rules.specs.FaultLaws.{of_reading, Told}
 use Rattle.rules.specs.ValueLaws.{two_bytes}
 use Rattle.rules.specs.EqualLaws.{equal_is}
+use Rattle.cards.specs.Fits.{Fit, spent, onto, Sorted, transparent, of_records}
 
 -- the file f, behind `front`, in the record of that kind at a place
 pub record Frame (s : List ℕ) (kind : ℕ) (front : List ℕ) (at : ℕ) (f : File) : Type 0 where
@@ -28,16 +29,6 @@ pub record Frame (s : List ℕ) (kind : ℕ) (front : List ℕ) (at : ℕ) (f : 
   pub inside : f.stop ≤ length s
   pub size : f.stop - f.start ≤ 16383
   pub whole : slice at (length s) s ≡ record_bytes kind (front ++ slice f.start f.stop s) ++ slice f.stop (length s) s
-
--- records of a file one after the other, up to its end
-pub data Fit (s : List ℕ) (stop : ℕ) : ℕ → Type 0 where
-  spent : {at : ℕ} → at ≡ stop → Fit s stop at
-  onto : {at : ℕ} → at < stop → Fit s stop (record_end s at) → Fit s stop at
-
--- a file by its kind: transparent, or of records that fit
-pub data Sorted (s : List ℕ) (kind stop start : ℕ) : Type 0 where
-  transparent : kind ≡ 3 → Sorted s kind stop start
-  of_records : (kind ≡ 3 → ⊥) → Fit s stop start → Sorted s kind stop start
 
 -- with its path in front
 pub record NamedFile (s : List ℕ) (at : ℕ) (f : File) : Type 0 where

@@ -29,7 +29,7 @@ use Rattle.rules.specs.Files.{Name}
 use Rattle.rules.specs.Pays.{pays, pays_append, and_pays, pays_each, pays_none, names_append, names_none, lacks, times, Few, one_few, and_few, rest_few, fields_few, in_pays}
 use Rattle.cards.specs.Card as card
 use Rattle.cards.specs.Card.{Object, records_of, behind, identifiers_in}
-use Rattle.cards.specs.Blocks.{records_are, behind_inner}
+use Rattle.cards.proofs.BlockLaws.{records_are, behind_inner}
 
 -- ---- an object: what its common part and its class say of a kind that stands nowhere else in it
 abbrev Elsewhere : ℕ → Type 0

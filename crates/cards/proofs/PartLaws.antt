@@ -4,6 +4,8 @@ use Rattle.std.proofs.Common.{append-nil, inl, inr, ◌∙◌, arith, length-app
 use Rattle.std.proofs.Math.Path.{refl}
 use Rattle.std.proofs.Math.Seq.{slice, slice_empty}
 use Rattle.elements.specs.Lists.{Bytes}
+use Rattle.rules.proofs.SoundLayouts.{cia_fine, cia_sound}
+use Rattle.rules.proofs.SoundFiles.{dir_fine, dir_sound, directory_fine, directory_sound, od_fine, od_sound}
 use Rattle.rules.specs.Reading.{Rec}
 use Rattle.rules.specs.Parts.{inside}
 use Rattle.rules.specs.Files as files
@@ -11,10 +13,8 @@ use Rattle.rules.specs.declared.site.Site.{Site}
 use Rattle.rules.specs.Grammar.{Where, site_of, origin, ◌on◌, each, one, Part, total}
 use Rattle.rules.specs.GrammarLaws.{close, Facts, BodyLaw, PlainBody, inside_law}
 use Rattle.rules.specs.ItemLaws.{recount_body, total_none}
-use Rattle.rules.specs.Layouts.{cia_fine}
 use Rattle.rules.specs.Layouts as layouts
 use Rattle.rules.specs.Entries as entries
-use Rattle.rules.specs.FileLayouts.{od_fine, directory_fine, dir_fine}
 use Rattle.rules.specs.FileLayouts as filing
 use Rattle.cards.specs.Card as card
 use Rattle.cards.specs.Card.{under, in_entry, in_od, in_records}
@@ -49,21 +49,21 @@ module _ (s : List ℕ) (bytes : Bytes s) (small : length s ≤ 32768) where
   -- CIAInfo
   pub cia_law : (site : Site) → PlainBody site s (inside (files.cia s)) card.cia
   unfolding layouts.cia
-  cia_law site = inside_law (((layouts.cia).lawful cia_fine).exact site s bytes small 0 (omega arith)) refl
+  cia_law site = inside_law ((cia_sound.lawful cia_fine).exact site s bytes small 0 (omega arith)) refl
 
   -- EF.OD, from its first byte on
   pub od_law : (p : ℕ) → BodyLaw (site_of 0 p) s (inside ((filing.od).read (site_of 0 p) s 0)) card.od (λ x. length (in_od x)) 0 128
-  od_law p = recount_body (λ x. length (in_od x)) (λ x. count_od x) (((filing.od).lawful od_fine).exact (site_of 0 p) s bytes small 0 (omega arith))
+  od_law p = recount_body (λ x. length (in_od x)) (λ x. count_od x) ((od_sound.lawful od_fine).exact (site_of 0 p) s bytes small 0 (omega arith))
 
   -- EF.DIR
   pub dir_law : (p : ℕ) → BodyLaw (site_of 0 p) s (inside (files.dir s)) card.templates (λ _. 0) 0 0
   unfolding files.dir
-  dir_law p = recount_body (λ _. 0) (λ x. total_none x.0) (((filing.dir).lawful dir_fine).exact (site_of 0 p) s bytes small 0 (omega arith))
+  dir_law p = recount_body (λ _. 0) (λ x. total_none x.0) ((dir_sound.lawful dir_fine).exact (site_of 0 p) s bytes small 0 (omega arith))
 
   -- a directory file, from its first byte on
   pub directory_law : (n p t k : ℕ) → k ≤ 128 → BodyLaw (site_of n p) s (inside ((filing.directory t).read (site_of n p) s k)) (card.directory t) (filing.directory t).count k 128
   unfolding entries.object
-  directory_law n p t k h = ((filing.directory t).lawful (directory_fine t)).exact (site_of n p) s bytes small k h
+  directory_law n p t k h = ((directory_sound t).lawful (directory_fine t)).exact (site_of n p) s bytes small k h
 
 -- what closes is all of it
 pub all_of : {site : Site} {s : List ℕ} {P : Part} {c : P.Of → ℕ} {k N end at : ℕ} {rs : List Rec} {ms : List ℕ} {n : ℕ} (f : Facts site s P c k N close end at rs ms n) → slice at end s ≡ P.bytes f.it

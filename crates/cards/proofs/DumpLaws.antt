@@ -11,6 +11,8 @@ use Rattle.elements.specs.declared.fault.Fault.{Fault}
 use Rattle.elements.specs.ChoiceLaws.{by_choose}
 use Rattle.elements.specs.Lists.{Bytes}
 use Rattle.elements.specs.Record.{record_bytes}
+use Rattle.rules.proofs.SoundLayouts.{cia_fine, cia_sound}
+use Rattle.rules.proofs.SoundFiles.{dir_fine, dir_sound, od_fine, od_sound}
 use Rattle.rules.specs.Reading.{Rec, Res}
 use Rattle.rules.specs.Files.{Name, File, FrameRead, Files, Check, Answer, accepted, refused, paths, first_again, entry_place, frame, on_framed, on_files, on_res, on_check, read_files, read_parts, and_also, od, dir, read_from, has_dir, read_dump}
 use Rattle.rules.specs.Book.{encode}
@@ -24,23 +26,23 @@ use Rattle.rules.specs.FaultLaws.{Told}
 use Rattle.rules.specs.GrammarLaws.{close, marks_append, Facts, Reads, refuses, takes}
 use Rattle.cards.specs.Card as card
 use Rattle.cards.specs.Card.{in_od, in_files, Card, dump_of, book_of, Meets}
-use Rattle.cards.specs.CardKinds.{od_names, card_ids}
+use Rattle.cards.proofs.CardKinds.{od_names, card_ids}
 use Rattle.rules.specs.Pays.{ids_of}
-use Rattle.cards.specs.OnceLaws.{New, apart_none, once_sound, once_complete, entry_place_lem, IdsRead, again, new, ids_sound, ids_complete}
-use Rattle.cards.specs.FrameLaws.{Frame, by_frame, held, frame_held, Chain, ChainReads, no_chain, chain, chain_sound, Follows, FollowReads, no_follow, follows, follow_sound}
-use Rattle.cards.specs.PartLaws.{cia_law, od_law, dir_law, all_of}
-use Rattle.cards.specs.DirectoryLaws.{DirReads, no_dir, dirs, dirs_sound, dirs_complete}
-pub use Rattle.cards.specs.DirectoryLaws.{DirFacts, dirs_read}
+use Rattle.cards.proofs.OnceLaws.{New, apart_none, once_sound, once_complete, entry_place_lem, IdsRead, again, new, ids_sound, ids_complete}
+use Rattle.cards.proofs.FrameLaws.{Frame, by_frame, held, frame_held, Chain, ChainReads, no_chain, chain, chain_sound, Follows, FollowReads, no_follow, follows, follow_sound}
+use Rattle.cards.proofs.PartLaws.{cia_law, od_law, dir_law, all_of}
+use Rattle.cards.proofs.DirectoryLaws.{DirReads, no_dir, dirs, dirs_sound, dirs_complete}
+pub use Rattle.cards.proofs.DirectoryLaws.{DirFacts, dirs_read}
 
 -- a file's records are the same wherever it starts
 cia_home : (p : ℕ) (x : (card.cia).Of) → (card.cia).book (opening 0 p) x ≡ (card.cia).book origin x
-cia_home p x = home ((layouts.cia).lawful layouts.cia_fine).renders 0 p x
+cia_home p x = home (cia_sound.lawful cia_fine).renders 0 p x
 
 od_home : (p : ℕ) (x : (card.od).Of) → (card.od).book (opening 0 p) x ≡ (card.od).book origin x
-od_home p x = home ((filing.od).lawful filing.od_fine).renders 0 p x
+od_home p x = home (od_sound.lawful od_fine).renders 0 p x
 
 dir_home : (p : ℕ) (x : (card.templates).Of) → (card.templates).book (opening 0 p) x ≡ (card.templates).book origin x
-dir_home p x = home ((filing.dir).lawful filing.dir_fine).renders 0 p x
+dir_home p x = home (dir_sound.lawful dir_fine).renders 0 p x
 
 -- a dump and these records are those of a card
 pub record CardOf (d : List ℕ) (rs : List Rec) : Type 0 where

@@ -9,6 +9,7 @@ use Rattle.std.proofs.Math.Seq.{slice, length-slice}
 use borrow.Author.Tests.{lt-ltb, le-ltb, eq-eqb}
 use Rattle.elements.specs.Lists.{Bytes, Begins, begins, join, cons}
 use Rattle.elements.specs.Put.{le16}
+use Rattle.rules.proofs.SoundFiles.{record_fine, record_sound}
 use Rattle.rules.specs.Reading.{Rec, rec, Res, took, also, Reader}
 use Rattle.rules.specs.Parts.{counted, repeat, to_end, inside}
 use Rattle.rules.specs.Files as files
@@ -24,8 +25,9 @@ use Rattle.rules.specs.Layouts as layouts
 use Rattle.rules.specs.Entries as entries
 use Rattle.rules.specs.FileLayouts as filing
 use Rattle.cards.specs.Card as card
-use Rattle.cards.specs.FrameLaws.{bytes_are, Fit, spent, onto}
-use Rattle.cards.specs.PartLaws.{all_of}
+use Rattle.cards.specs.Fits.{Fit, spent, onto}
+use Rattle.cards.proofs.FrameLaws.{bytes_are}
+use Rattle.cards.proofs.PartLaws.{all_of}
 
 -- what fits does not run over
 pub fit_high : {s : List ℕ} {stop at : ℕ} → Fit s stop at → at ≤ stop
@@ -36,7 +38,7 @@ module _ (site : Site) (s : List ℕ) (bytes : Bytes s) (small : length s ≤ 32
   -- a record after k objects
   record_law : (k : ℕ) → k ≤ 128 → BodyLaw site s (inside (files.record_in s site t k)) (filing.record_in t).part (filing.record_in t).count k 128
   unfolding files.record_in entries.object
-  record_law k h = ((filing.record_in t).lawful (filing.record_fine t)).exact site s bytes small k h
+  record_law k h = ((record_sound t).lawful (record_fine t)).exact site s bytes small k h
 
   -- it ends where its container does
   pub record_closes : (k : ℕ) → k ≤ 128 → (end at : ℕ) → at ≤ end → end ≤ length s → {bs : List Rec} {ms : List ℕ} {n : ℕ} → files.record_in s site t k end at ≡ took bs ms n → n ≡ end
@@ -169,7 +171,7 @@ module _ (site : Site) (s : List ℕ) (bytes : Bytes s) (small : length s ≤ 32
 -- its records are the same wherever it starts
 pub linear_home : (t n p : ℕ) (xs : (card.linear t).Of) → (card.linear t).book (opening n p) xs ≡ (card.linear t).book (opening n 0) xs
 unfolding entries.object layouts.insides
-linear_home t n p xs = rw (home (many_renders {P = card.record_in t} tt (lengthed_renders tt ((filing.record_in t).lawful (filing.record_fine t)).renders)) n p xs) refl
+linear_home t n p xs = rw (home (many_renders {P = card.record_in t} tt (lengthed_renders tt ((record_sound t).lawful (record_fine t)).renders)) n p xs) refl
 
 -- a record file, the nth, is read as it is, if its records fit
 module _ (s : List ℕ) (bytes : Bytes s) (small : length s ≤ 32768) (n t : ℕ) where

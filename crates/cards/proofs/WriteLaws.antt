@@ -14,8 +14,8 @@ use Rattle.rules.specs.ValueLaws.{two_bytes}
 use Rattle.rules.specs.EqualLaws.{equal_is, equal_self}
 use Rattle.rules.specs.BookLaws.{book_size}
 use Rattle.rules.proofs.ByteLaws.{candidate_bytes}
-use Rattle.cards.specs.CardRender.{card_renders, card_bound, card_laid}
-use Rattle.cards.specs.DumpLaws.{accepted_card}
+use Rattle.cards.proofs.CardRender.{card_renders, card_bound, card_laid}
+use Rattle.cards.proofs.DumpLaws.{accepted_card}
 
 -- rendering the records of an accepted dump gives the dump, since they are a card's
 pub round : (d : List ℕ) (rs : List Rec) → Bytes d → read_dump d ≡ accepted rs → render rs ≡ d

@@ -11,9 +11,9 @@ use Rattle.rules.specs.Render.{render}
 use Rattle.rules.specs.Write.{Written, written, no_book, write_dump}
 use Rattle.rules.specs.Meaning.{Has, AcceptedBook}
 use Rattle.cards.specs.Card.{Card, dump_of, book_of, Meets}
-use Rattle.cards.specs.CardRender as rendered
-use Rattle.cards.specs.WriteLaws as laws
-use Rattle.cards.specs.DumpLaws as dumps
+use Rattle.cards.proofs.CardRender as rendered
+use Rattle.cards.proofs.WriteLaws as laws
+use Rattle.cards.proofs.DumpLaws as dumps
 
 -- "A dump is accepted exactly when it meets the DER rules, the 7816-15 layouts and the limits of document 01, and its book is the one they define": it is the dump of a card that meets them, and its book is the card's
 pub accepted_cards : (d : List ℕ) (rs : List Rec) → Bytes d → (read_dump d ≡ accepted rs) ↔ ((c : Card) × Meets c × (dump_of c ≡ d) × (book_of c ≡ rs))

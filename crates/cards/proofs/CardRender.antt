@@ -4,6 +4,8 @@ use Rattle.std.proofs.Common.{inl, inr, sym, ap, ◌∙◌, subst, append-nil, a
 use Rattle.std.proofs.Math.Bool.{true}
 use Rattle.std.proofs.Math.ListN.{length}
 use Rattle.elements.specs.Record.{record_bytes}
+use Rattle.rules.proofs.SoundLayouts.{cia_fine, cia_sound}
+use Rattle.rules.proofs.SoundFiles.{dir_fine, dir_sound, directory_fine, directory_sound, od_fine, od_sound, record_fine, record_sound}
 use Rattle.rules.specs.Reading.{Rec}
 use Rattle.rules.specs.Files as files
 use Rattle.rules.specs.Files.{Name}
@@ -17,7 +19,7 @@ use Rattle.rules.specs.Entries as entries
 use Rattle.rules.specs.FileLayouts as filing
 use Rattle.rules.specs.Render.{r_cia, r_od, r_directory, r_record_in, r_linear, r_named, r_file, r_directories, r_dir, framing, used, render}
 use Rattle.cards.specs.Card as card
-use Rattle.cards.specs.CardKinds.{od_names}
+use Rattle.cards.proofs.CardKinds.{od_names}
 use Rattle.cards.specs.Card.{Card, Meets, dump_of, book_of}
 
 -- a file in a record of the dump, behind these bytes: its places count from its own first byte
@@ -45,22 +47,22 @@ framed_renders {P} {q} {L} v kind front t r =
 -- CIAInfo in its record
 cia_framed : Renders (framed origin 1 [] card.cia) (r_framed 1 [] r_cia) (elem_look (layouts.cia).kinds)
 unfolding layouts.cia layouts.info
-cia_framed = framed_renders origin 1 [] tt ((layouts.cia).lawful layouts.cia_fine).renders
+cia_framed = framed_renders origin 1 [] tt (cia_sound.lawful cia_fine).renders
 
 -- EF.OD in its record
 od_framed : Renders (framed origin 2 [] card.od) (r_framed 2 [] r_od) (elem_look (filing.od).kinds)
 unfolding r_od
-od_framed = framed_renders origin 2 [] tt ((filing.od).lawful filing.od_fine).renders
+od_framed = framed_renders origin 2 [] tt (od_sound.lawful od_fine).renders
 
 -- a directory file: rendering it does not take its entry's tag
 directory_renders : (t : ℕ) → Renders (card.directory t) r_directory (filing.directory 0).kinds
 unfolding r_directory entries.object
-directory_renders t = ((filing.directory t).lawful (filing.directory_fine t)).renders
+directory_renders t = ((directory_sound t).lawful (directory_fine t)).renders
 
 -- a record of a record file: its length pays for its 011A and for its fill
 record_renders : (t : ℕ) → Renders (card.record_in t) r_record_in (elem_look (filing.record_in 0).kinds)
 unfolding r_record_in entries.object layouts.insides
-record_renders t = lengthed_renders tt ((filing.record_in t).lawful (filing.record_fine t)).renders
+record_renders t = lengthed_renders tt ((record_sound t).lawful (record_fine t)).renders
 
 -- a record file
 abbrev linear_look : Look
@@ -115,7 +117,7 @@ dir_look = look (0x0200 ∷ []) true (0x0200 ∷ (filing.dir).kinds.stop) 0
 
 dir_framed : Renders card.framed_dir (r_framed 5 [] r_dir) (elem_look (filing.dir).kinds)
 unfolding r_dir layouts.template layouts.discretionary layouts.path_from
-dir_framed = with_renders {P = framed origin 5 [] card.templates} (λ x. length ((card.templates).bytes x) ≤ 16383) (framed_renders origin 5 [] tt ((filing.dir).lawful filing.dir_fine).renders)
+dir_framed = with_renders {P = framed origin 5 [] card.templates} (λ x. length ((card.templates).bytes x) ≤ 16383) (framed_renders origin 5 [] tt (dir_sound.lawful dir_fine).renders)
 
 dir_renders : Renders card.ef_dir (when (0x0200 ∷ []) (r_framed 5 [] r_dir)) dir_look
 unfolding layouts.template layouts.discretionary layouts.path_from
@@ -228,8 +230,8 @@ pub card_renders : (c : Card) → Meets c → render (book_of c) ≡ dump_of c
 unfolding r_od
 card_renders c m =
     render_is ((card.cia).book origin c.info) ((card.od).book origin c.main) (ds c m) (es c m) ((card.cia).bytes c.info) ((card.od).bytes c.main) ((card.files 1 (ns c m)).bytes c.dirs) ((card.ef_dir).bytes c.dir) (ns c m)
-    (((layouts.cia).lawful layouts.cia_fine).renders.renders origin c.info m.info ((card.od).book origin c.main ++ (ds c m ++ es c m)) (after_cia c m))
-    (((filing.od).lawful filing.od_fine).renders.renders origin c.main m.main (ds c m ++ es c m) (after_od c m)) (od_names origin c.main)
+    ((cia_sound.lawful cia_fine).renders.renders origin c.info m.info ((card.od).book origin c.main ++ (ds c m ++ es c m)) (after_cia c m))
+    ((od_sound.lawful od_fine).renders.renders origin c.main m.main (ds c m ++ es c m) (after_od c m)) (od_names origin c.main)
     ((files_renders 1 (ns c m)).renders origin c.dirs m.dirs (es c m) (after_files c m))
     (rw (append-nil ((card.ef_dir).book origin c.dir)) at (dir_renders.renders origin c.dir m.dir [] tt))
 

@@ -1,0 +1,15 @@
+pub mod CardKinds
+pub mod CardRender
+pub mod OnceLaws
+pub mod FrameLaws
+pub mod PartLaws
+pub mod RecordLaws
+pub mod DirectoryLaws
+pub mod DumpLaws
+pub mod WriteLaws
+pub mod Demand2
+pub mod CardExample
+pub mod BlockLaws
+pub mod FlagLaws
+pub mod JumpLaws
+pub mod WithoutLaws
