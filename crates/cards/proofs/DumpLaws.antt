@@ -20,8 +20,6 @@ use Rattle.rules.specs.Meaning.{AcceptedBook}
 use Rattle.rules.specs.declared.site.Site.{Site}
 use Rattle.rules.specs.Grammar.{site_of, opening, origin, Part}
 use Rattle.rules.specs.RenderLaws.{home}
-use Rattle.rules.specs.Layouts as layouts
-use Rattle.rules.specs.FileLayouts as filing
 use Rattle.rules.specs.FaultLaws.{Told}
 use Rattle.rules.specs.GrammarLaws.{close, marks_append, Facts, Reads, refuses, takes}
 use Rattle.cards.specs.Card as card
