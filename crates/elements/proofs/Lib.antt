@@ -8,3 +8,5 @@ pub mod PutLoops
 pub mod KeyLaws
 pub mod ScanLaws
 pub mod CharLaws
+pub mod FlagLaws
+pub mod ValueLaws

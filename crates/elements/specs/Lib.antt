@@ -26,13 +26,11 @@ pub mod Says
 pub mod SpreadLaws
 pub mod IntegerLaws
 pub mod BitsLaws
-pub mod FlagLaws
 pub mod PutLaws
 pub mod RecordLaws
 pub mod TextLaws
 pub mod Utf8Laws
 pub mod CharacterLaws
 pub mod TimeLaws
-pub mod ValueLaws
 pub mod WrongLaws
 pub mod BitsFaults

@@ -18,7 +18,7 @@ use Rattle.elements.specs.Integer.{signed}
 use Rattle.elements.specs.Values.{value}
 use Rattle.elements.specs.Encodings.{Worth, contents_of, tells, negative, Encodes}
 use Rattle.elements.specs.ToldLaws.{least_is, told_exact}
-use Rattle.elements.specs.ValueLaws.{value_sound, value_complete}
+use Rattle.elements.proofs.ValueLaws.{value_sound, value_complete}
 use Rattle.rules.specs.declared.table.Need.{Need}
 use Rattle.rules.specs.declared.table.Need.TheVariants.{Required, Optional, Default}
 use Rattle.rules.specs.declared.table.Row.{Row}

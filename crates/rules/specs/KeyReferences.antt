@@ -8,7 +8,7 @@ use Rattle.elements.specs.declared.answer.Form.TheVariants as form
 use Rattle.elements.specs.Choice.{choose}
 use Rattle.elements.specs.ChoiceLaws.{by_pick}
 use Rattle.elements.specs.Integer.{most, least, spread_by, spread, integer_bytes, signed}
-use Rattle.elements.specs.ValueLaws.{value_complete}
+use Rattle.elements.proofs.ValueLaws.{value_complete}
 use Rattle.elements.specs.Put.{le32}
 use Rattle.rules.specs.declared.table.Need.{Need}
 use Rattle.rules.specs.declared.table.Need.TheVariants.{Required, Optional, Default}

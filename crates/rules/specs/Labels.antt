@@ -7,7 +7,7 @@ use Rattle.elements.specs.Encodings.{Scalars, utf8s, contents_of}
 use Rattle.elements.specs.ToldLaws.{least_is}
 use Rattle.elements.specs.Integer.{most}
 use Rattle.elements.specs.CharacterLaws.{utf8s_most}
-use Rattle.elements.specs.ValueLaws.{value_complete}
+use Rattle.elements.proofs.ValueLaws.{value_complete}
 use Rattle.elements.specs.Values.{value}
 use Rattle.rules.specs.declared.table.Row.{Row}
 use Rattle.rules.specs.Parts.{sized, judged, payload}

@@ -12,7 +12,7 @@ use Rattle.elements.specs.Encodings.{Encodes}
 use Rattle.elements.specs.ToldLaws.{least_is}
 use Rattle.elements.specs.Says.{Says, wrong, says, by_test, said}
 use Rattle.elements.specs.IntegerLaws.{integer_sound, integer_complete}
-use Rattle.elements.specs.FlagLaws.{bits_sound, bits_complete}
+use Rattle.elements.proofs.FlagLaws.{bits_sound, bits_complete}
 use Rattle.elements.specs.TextLaws.{text_sound, text_complete}
 use Rattle.elements.specs.TimeLaws.{time_sound, time_complete}
 
