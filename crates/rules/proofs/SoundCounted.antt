@@ -47,7 +47,7 @@ pub single_sound : {P : Counted} (g : Fault) (f : Option Rec) (kind : ℕ) → S
 single_sound g f kind x = record { lawful = λ z. single_lawful (x.lawful z.0.0) f kind z.0.1 z.0.2 z.0.3 z.0.4 z.0.5 z.0.6 z.0.7 g z.1 z.2 }
 
 -- an element with one of these tags, behind a record that tells where it stands
-numbered_lawful : (most : ℕ) (f : Fault) (kind : ℕ) (which : ℕ → Bool) (P : ℕ → ℕ → Layout) (each : (y t : ℕ) → Sound (P y t)) (x : ℕ) → ((y t : ℕ) → (P y t).Fine × T (under (P y t).kinds (P 0 0).kinds) × T (is_close (P y t).tags.stop) × Paid (P y t).part) → ((t : ℕ) → which t ≡ true → LowTag t) →
+pub numbered_lawful : (most : ℕ) (f : Fault) (kind : ℕ) (which : ℕ → Bool) (P : ℕ → ℕ → Layout) (each : (y t : ℕ) → Sound (P y t)) (x : ℕ) → ((y t : ℕ) → (P y t).Fine × T (under (P y t).kinds (P 0 0).kinds) × T (is_close (P y t).tags.stop) × Paid (P y t).part) → ((t : ℕ) → which t ≡ true → LowTag t) →
     T (ltb kind 65536) → 1 ≤ most → T (of_reading f) →
     LawfulCounted most (one (grammar.numbered kind which x (λ t. (P x t).part))) (λ _. 1) (λ site s. up_to most f (λ _. element s (numbered_body kind which (P x) x site s)))
     (from (λ k p. within (get_or p 1 0) (P (get_or p 0 0) (get_or p 1 0)).render)) (look (kind ∷ []) false (P 0 0).kinds.stop 0) (exact.look which false (tags []))

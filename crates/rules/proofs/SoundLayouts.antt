@@ -1,19 +1,18 @@
 -- That each layout's faces fit together, and that in none a tag or a kind is taken for another.
-use Rattle.std.specs.Prelude.{ℕ, ◌≡◌, [], eqb, true}
+use Rattle.std.specs.Prelude.{ℕ, ◌≡◌, eqb, true}
 use Rattle.std.proofs.Common.{refl, le_refl, arith, eqb-true}
-use Rattle.rules.specs.declared.table.Need.TheVariants.{Required, Optional}
+use Rattle.rules.specs.declared.table.Need.TheVariants.{Optional}
 use Rattle.rules.specs.declared.table.Class.{Class}
 use Rattle.rules.specs.declared.table.Class.TheVariants.{Keys, Certificates, Containers, Authentications}
 use Rattle.rules.specs.declared.table.ObjectType.{ObjectType}
 use Rattle.rules.specs.declared.table.ObjectType.TheVariants.{PrivateKey, Certificate, Password, Sealed}
-use Rattle.rules.specs.declared.table.Sequence.{Sequence}
-use Rattle.rules.specs.declared.table.Sequence.TheVariants.{Info, Common, Rule, Key, CertificateAttributes, Authentication, PrivateKeyAttributes, PasswordAttributes, Path, Template, Discretionary, OdfPath, InfoPath}
-use Rattle.rules.specs.Tables.{cia_rows, common_rows, rule_rows, key_rows, certificate_rows, authentication_rows, path_kind, path_rows_from, private_rows, password_rows, template_rows, discretionary_rows, rest_of, kept_of, type_of, class_of}
+use Rattle.rules.specs.declared.table.Sequence.TheVariants.{PasswordAttributes, Path}
+use Rattle.rules.specs.Tables.{path_kind, path_rows_from, password_rows, rest_of, kept_of}
 use Rattle.rules.specs.Rulings.{flag_of, ours_in}
 use Rattle.rules.specs.Faces.{itself, ending}
 use Rattle.rules.specs.ConditionRender.{condition_renders, condition_clean}
 use Rattle.rules.specs.Layout.{OfClass, class_kinds, OfType, type_kinds}
-use Rattle.rules.specs.Layouts.{rest_in, info, cia, path_from, path, condition_of, rule, rules, common, classes, class, subclass, private_key, certificate_value, certificate, password, types, typed, contents, discretionary, template_parts, template, insides}
+use Rattle.rules.specs.Layouts.{info, cia, path_from, path, condition_of, rule, rules, common, classes, class, subclass, private_key, certificate_value, certificate, password, types, typed, contents, discretionary, template_parts, template, insides}
 use Rattle.rules.proofs.ConditionLaws.{plain_condition_lem}
 use Rattle.rules.proofs.CheckingLaws.{pairs, flags, reaches}
 use Rattle.rules.proofs.Sound.{Sound, SoundOne, and_sound, fields_sound, rest_sound, ended_sound, apart_sound, due_sound, offered_sound, least_sound, with_sound, headed_sound, opened_sound, sealed_if_sound, sealed_all_sound, one_sound, sealed_one_sound, kept_sound, or_sound, class_of_sound, type_of_sound, alone_sound}
