@@ -6,3 +6,8 @@ pub mod RowLaws
 pub mod ListLaws
 pub mod ServiceLaws
 pub mod FieldLaws
+pub mod AnswerLaws
+pub mod RisingLaws
+pub mod Demand3
+pub mod LeadLaws
+pub mod ToldLaws

@@ -17,7 +17,8 @@ use Rattle.links.specs.Links.{answering, bears, answers, Reply, by, missing, num
 use Rattle.links.specs.Finding.{objects_at, Indexed, AnswerTold, RowPut, RowsPut}
 use Rattle.links.specs.FindingLaws.{at_number}
 use Rattle.links.specs.Told.{four_each}
-use Rattle.links.specs.Chains.{key_of, key_at, Key, Leads, Chained, answers_lead}
+use Rattle.links.specs.Chains.{key_of, key_at, Key, Leads, Chained}
+use Rattle.links.proofs.LeadLaws.{answers_lead}
 
 -- four numbers put one after the other
 pub put_four : {a b c d e : List ℕ} {o p q r s w x y z : ℕ} → Put a b o p (w ∷ []) → Put b c p q (x ∷ []) → Put c d q r (y ∷ []) → Put d e r s (z ∷ []) → Put a e o s (w ∷ x ∷ y ∷ z ∷ [])

@@ -1,7 +1,5 @@
 pub mod Links
 pub mod ClassLaws
-pub mod AnswerLaws
-pub mod RisingLaws
 pub mod WholeLaws
 pub mod Finding
 pub mod FindingLaws
@@ -10,6 +8,5 @@ pub mod Serving
 pub mod BookFacts
 pub mod Told
 pub mod SameList
-pub mod Demand3
 pub mod Agreement
 pub mod Refusals

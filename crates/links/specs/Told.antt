@@ -1,24 +1,21 @@
 -- The lent numbers, four by four, are the rows (demand 3).
-use Rattle.std.specs.Prelude.{ℕ, zero, suc, ◌*◌, ◌<◌, ◌≤◌, ◌≡◌, length, take, drop, eqb}
+use Rattle.std.specs.Prelude.{ℕ, zero, suc, ◌*◌, ◌<◌, ◌≤◌, ◌≡◌, length, eqb}
 use Rattle.std.proofs.Math.Path.{refl}
 use Rattle.std.proofs.Common.{◌∙◌, arith, ne_eqb}
-use mathlib.Core.List.{List, [], ◌∷◌, ◌++◌, Memᴰ}
+use mathlib.Core.List.{List, [], ◌∷◌, Memᴰ}
 use Rattle.elements.specs.declared.fault.Fault.TheVariants.{NoRoom}
 use Rattle.elements.specs.Choice.{choose}
 use Rattle.elements.specs.Lists.{Bytes}
 use Rattle.rules.specs.declared.outcome.Outcome.{Outcome}
 use Rattle.rules.specs.declared.outcome.Outcome.TheVariants.{Accepted, Refused}
-use Rattle.rules.specs.Reading.{Rec}
 use Rattle.rules.specs.Book.{encode}
 use Rattle.rules.specs.Files.{accepted, read_dump}
 use Rattle.cards.specs.Card.{Card, Meets, dump_of, book_of}
 use Rattle.cards.proofs.WriteLaws.{records_of_lem}
 use Rattle.cards.proofs.Demand2.{accepted_cards, read_then_written}
 use Rattle.layouts.specs.Service.{served, giving}
-use Rattle.layouts.specs.GivingLaws.{handed, handed_first, fitting, too_long}
-use Rattle.links.specs.Links.{Object, objects_of, Reply, by, missing, Row, row, links, number, listed, chosen, object_at}
-use Rattle.links.specs.AnswerLaws.{rows_answered}
-use Rattle.links.specs.WholeLaws.{few_objects}
+use Rattle.layouts.specs.GivingLaws.{fitting, too_long}
+use Rattle.links.specs.Links.{Object, Reply, by, missing, Row, row, links, number, listed, chosen, object_at}
 use Rattle.links.specs.Serving.{listing, ListTold}
 
 -- "answering object, or 4,294,967,295 for missing"
@@ -59,19 +56,9 @@ at_below [] j e = absurd (let z : ◌≡◌ {A = ℕ} 0 1 = cc in omega arith)
 at_below (o ∷ os) zero e = omega arith
 at_below (o ∷ os) (suc j) e = omega (arith, at_below os j e)
 
--- what answers is an object
-pub replies_below : (rs : List Rec) → length (objects_of rs) ≤ 128 → (r : Row) → Memᴰ r (links rs) → Below r.reply
-replies_below rs few r m = go r.reply refl
-  where
-    go : (q : Reply) → r.reply ≡ q → Below q
-    go missing e = tt
-    go (by j) e =
-        let w = (rows_answered rs r.link r.object r.at j).0 (rw (← e) m) in
-        omega (arith, at_below (objects_of rs) j w.2.numbered)
-
 -- what list answered of the book of a card of document 01
 module _ (x : Card) (meets : Meets x) (bytes : Bytes (dump_of x)) where
-  reads : read_dump (dump_of x) ≡ accepted (book_of x)
+  pub reads : read_dump (dump_of x) ≡ accepted (book_of x)
   reads = (accepted_cards (dump_of x) (book_of x) bytes).1 (x, meets, refl, refl)
 
   pub gives : {a c : List ℕ} {r : Outcome} → ListTold (encode (book_of x)) a c r → served r c ≡ giving (listed (links (book_of x))) a
@@ -82,10 +69,3 @@ module _ (x : Card) (meets : Meets x) (bytes : Bytes (dump_of x)) where
   room {a} {c} {r} t =
       let rows = listed (links (book_of x)) in
       rw (← four_each (links (book_of x))) ((λ l. (fitting rows a c r (gives t) l).0), (λ l. too_long rows a c r (gives t) l))
-
-  pub lent : {a c : List ℕ} {n : ℕ} → ListTold (encode (book_of x)) a c (Accepted n) → (rows_in (take n c) ≡ links (book_of x)) × (n ≡ 4 * length (links (book_of x))) × (c ≡ take n c ++ drop n a)
-  lent {a} {c} {n} t =
-      let rows = listed (links (book_of x)) in
-      let h = handed rows a c (gives t) in
-      let f : take n c ≡ rows = handed_first rows a c (gives t) in
-      (rw f (rows_told (links (book_of x)) (replies_below (book_of x) (few_objects (dump_of x) (book_of x) bytes reads))), h.0 ∙ four_each (links (book_of x)), rw f h.1)

@@ -1,6 +1,6 @@
 -- The objects of a card's book are the card's, in turn, each whole (demand 3).
-use Rattle.std.specs.Prelude.{ℕ, suc, ◌≤◌, ◌≡◌, refl, Bool, true, false, not, length, eqb, T}
-use Rattle.std.proofs.Common.{ap, ◌∙◌, ⊎_elim, arith}
+use Rattle.std.specs.Prelude.{ℕ, suc, ◌≤◌, ◌≡◌, refl, Bool, true, false, ◌||◌, not, length, leb, eqb, T}
+use Rattle.std.proofs.Common.{ap, ◌∙◌, ⊎_elim, true≢false, arith}
 use mathlib.Core.List.Memᴰ
 use mathlib.Core.List.{List, [], ◌∷◌, ◌++◌, append_assoc, Memᴰ}
 use Rattle.std.proofs.lemmas.Bool.{not-true}
@@ -22,7 +22,15 @@ use Rattle.cards.specs.Blocks.{Blocks, nothing, other, whole}
 use Rattle.cards.proofs.BlockLaws.{records_are, front_entry, behind_inner, card_blocks}
 use Rattle.cards.proofs.DumpLaws.{accepted_card}
 use Rattle.links.specs.Links.{Held, held, Object, past, held_from, objects_from, objects_of, certifying, id_kind, chosen, object_at, states, States}
-use Rattle.links.specs.RisingLaws.{not_closing}
+use Rattle.elements.specs.Sealed.{among}
+
+-- a record that closes nothing starts no object
+pub not_closing : (k : ℕ) → closing k ≡ false → eqb k 0x0120 ≡ false
+not_closing k e = go (eqb k 0x0120) (among k (0x0110 ∷ 0x0107 ∷ 0x0118 ∷ 0x0119 ∷ 0x011a ∷ [])) (leb 0x0200 k) e
+  where
+    go : (t u v : Bool) → ((t || u) || v) ≡ false → t ≡ false
+    go true u v z = absurd (true≢false z)
+    go false u v z = refl
 
 -- these records, each with its book offset
 unfoldable pub held_all : ℕ → List Rec → List Held

@@ -17,7 +17,7 @@ use Rattle.rules.specs.Blocks.{closing}
 use Rattle.links.specs.Links.{Held, held, Object, held_from, objects_from, Row, links, nobody, chosen, object_at}
 use Rattle.links.specs.Finding.{objects_at, held_at, object_there, held_there}
 use Rattle.links.specs.FindingLaws.{from_start, objects_first, held_first, some_end}
-use Rattle.links.specs.AnswerLaws.{rows_stated}
+use Rattle.links.proofs.AnswerLaws.{rows_stated}
 use Rattle.why.specs.Why.{value_in}
 use Rattle.why.specs.RowFacts.{stated_value}
 

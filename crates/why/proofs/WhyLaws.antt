@@ -18,7 +18,7 @@ use Rattle.links.specs.Finding.{objects_at, FoundAt, RowsPut, Indexed}
 use Rattle.links.specs.FindingLaws.{from_start, rows_links, some_end}
 use Rattle.links.specs.Told.{at_below}
 use Rattle.links.specs.BookFacts.{if_book_lem, if_none}
-use Rattle.links.specs.AnswerLaws.{rows_answered}
+use Rattle.links.proofs.AnswerLaws.{rows_answered}
 use Rattle.why.specs.declared.answer.Why.{Why}
 use Rattle.why.specs.declared.answer.Why.TheVariants as answer
 use Rattle.why.specs.Why.{the_row, row_at, stands, why}

@@ -20,8 +20,7 @@ use Rattle.cards.specs.Card.{Card, book_of, front, behind}
 use Rattle.cards.specs.Blocks.{Blocks, nothing, other, whole}
 use Rattle.cards.proofs.BlockLaws.{behind_inner, card_blocks}
 use Rattle.links.specs.Links.{Held, held, Object, past, objects_from, objects_of, states, chosen, object_at, States}
-use Rattle.links.specs.RisingLaws.{not_closing}
-use Rattle.links.specs.WholeLaws.{held_all, untrue, inner_first, held_behind, held_none}
+use Rattle.links.specs.WholeLaws.{not_closing, held_all, untrue, inner_first, held_behind, held_none}
 use Rattle.why.specs.Why.{identifier_kinds, aside}
 use Rattle.why.specs.WhyFacts.{Stands}
 use Rattle.why.specs.OffsetLaws.{one_held, laid, one_object}

@@ -7,8 +7,7 @@ use Rattle.elements.specs.Choice.{choose}
 use Rattle.rules.specs.Reading.{Rec}
 use Rattle.rules.specs.Blocks.{closing}
 use Rattle.links.specs.Links.{Held, held, Object, past, held_from, objects_from, chosen, object_at}
-use Rattle.links.specs.RisingLaws.{not_closing}
-use Rattle.links.specs.WholeLaws.{held_all}
+use Rattle.links.specs.WholeLaws.{not_closing, held_all}
 use Rattle.why.specs.Why.{pay_at}
 
 -- ---- of all records

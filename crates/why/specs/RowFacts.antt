@@ -15,7 +15,7 @@ use Rattle.cards.proofs.Demand2.{accepted_cards, read_then_written, refused_if_n
 use Rattle.cards.proofs.WriteLaws.{records_of_lem}
 use Rattle.links.specs.Links.{Held, held, Object, objects_of, id_kind, found, first_of, Reply, by, missing, Row, links, Chosen, nobody, chosen, object_at, States}
 use Rattle.links.specs.Finding.{id_in}
-use Rattle.links.specs.AnswerLaws.{rows_answered, rows_stated}
+use Rattle.links.proofs.AnswerLaws.{rows_answered, rows_stated}
 use Rattle.why.specs.declared.answer.Why.{Why}
 use Rattle.why.specs.declared.answer.Why.TheVariants as answer
 use Rattle.why.specs.Why.{no_row, the_row, row_at, value_in, Reason, reason_for, because, no_such, why}

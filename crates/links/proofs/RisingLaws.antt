@@ -1,20 +1,20 @@
 -- The rows of the list rise (demand 3).
 use Prim.Native.Nat.{ℕ, suc, ◌<◌, ◌≤◌}
-use Rattle.std.specs.Prelude.{◌≡◌, ◌⊎◌, Bool, ◌||◌, leb, eqb}
+use Rattle.std.specs.Prelude.{◌≡◌, ◌⊎◌, Bool, eqb}
 use Rattle.std.proofs.Math.Path.{refl}
 use Rattle.std.proofs.Math.Logic.{inl}
-use Rattle.std.proofs.Common.{inr, true≢false}
+use Rattle.std.proofs.Common.{inr}
 use mathlib.Core.List.Memᴰ
 use mathlib.Core.List.{List, [], ◌∷◌, ◌++◌, map, Memᴰ}
 use Rattle.std.proofs.Math.Bool.{true, false}
 use native.Mathlib.Omega.{arith}
 use Rattle.std.proofs.Math.ListN.{get_or}
 use Rattle.elements.specs.Choice.{choose}
-use Rattle.elements.specs.Sealed.{among}
 use Rattle.rules.specs.Reading.{Rec}
 use Rattle.rules.specs.Blocks.{closing}
 use Rattle.links.specs.Links.{Held, held, Object, past, held_from, objects_from, objects_of, states, bears, answers, by, Row, row, rows_of, record_rows, object_rows, links_from, links, Before, Rises}
-use Rattle.links.specs.AnswerLaws.{stated_are}
+use Rattle.links.specs.WholeLaws.{not_closing}
+use Rattle.links.proofs.AnswerLaws.{stated_are}
 
 rises_append : (a b : List Row) → Rises a → Rises b → ((r q : Row) → Memᴰ r a → Memᴰ q b → Before r q) → Rises (a ++ b)
 rises_append [] b f g h = g
@@ -62,14 +62,6 @@ rows_rise l i p (j ∷ js) c = (go, rows_rise l i p js c.1)
 replies_rise : (l i p : ℕ) (js : List ℕ) → Climbs js → Rises (rows_of l i p js)
 replies_rise l i p [] c = (λ q m. absurd (Memᴰ.not-nil m), tt)
 replies_rise l i p (j ∷ js) c = rows_rise l i p (j ∷ js) c
-
--- a record that closes nothing starts no object
-pub not_closing : (k : ℕ) → closing k ≡ false → eqb k 0x0120 ≡ false
-not_closing k e = go (eqb k 0x0120) (among k (0x0110 ∷ 0x0107 ∷ 0x0118 ∷ 0x0119 ∷ 0x011a ∷ [])) (leb 0x0200 k) e
-  where
-    go : (t u v : Bool) → ((t || u) || v) ≡ false → t ≡ false
-    go true u v z = absurd (true≢false z)
-    go false u v z = refl
 
 module _ (os : List Object) where
   stated_rise : (i entry : ℕ) (h : Held) → Rises (record_rows os i entry h)

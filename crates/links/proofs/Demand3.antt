@@ -1,6 +1,6 @@
 -- Demand 3: "The link list holds each link the objects state, nested access conditions among them, with each object that answers it, once, in the stated order;
 -- a link is marked missing exactly when no object of the right class bears that identifier in the right field. Nothing else is on the list."
--- The words are those of Links; a card and its objects are those of Card; the proofs are in Told, AnswerLaws, WholeLaws and RisingLaws.
+-- The words are those of Links; a card and its objects are those of Card; the proofs are in Told, ToldLaws, AnswerLaws, WholeLaws and RisingLaws.
 use Rattle.std.specs.Prelude.{ℕ, ◌*◌, ◌<◌, ◌≤◌, ◌≡◌, ◌↔◌, length, take, drop}
 use mathlib.Core.List.{List, ◌++◌, Memᴰ}
 use Rattle.elements.specs.declared.fault.Fault.TheVariants.{NoRoom}
@@ -15,12 +15,13 @@ use Rattle.cards.specs.Card as card
 use Rattle.cards.specs.Card.{Card, Meets, dump_of, book_of, behind, identifiers}
 use Rattle.links.specs.Links.{Object, objects_of, by, missing, Row, row, links, states, id_kind, States, Bears, Rises}
 use Rattle.links.specs.Serving.{ListTold}
-use Rattle.links.specs.AnswerLaws.{rows_answered, rows_missing, rows_stated}
+use Rattle.links.proofs.AnswerLaws.{rows_answered, rows_missing, rows_stated}
 use Rattle.links.specs.WholeLaws as whole
 use Rattle.links.specs.WholeLaws.{WholeObject, WholeObjects, held_pays, At}
-use Rattle.links.specs.RisingLaws.{rows_rising}
+use Rattle.links.proofs.RisingLaws.{rows_rising}
 use Rattle.links.specs.Told as told
 use Rattle.links.specs.Told.{rows_in}
+use Rattle.links.proofs.ToldLaws as told_laws
 
 -- x is a card of document 01; list was given its book, with a slice that was a and then is c
 module _ (x : Card) (meets : Meets x) (bytes : Bytes (dump_of x)) where
@@ -31,7 +32,7 @@ module _ (x : Card) (meets : Meets x) (bytes : Bytes (dump_of x)) where
 
   -- "The link list": the numbers of the lent slice, four by four, are the rows of the card's book, and past them it is what it was
   pub lent : {a c : List ℕ} {n : ℕ} → ListTold (encode (book_of x)) a c (Accepted n) → (rows_in (take n c) ≡ links (book_of x)) × (n ≡ 4 * length (links (book_of x))) × (c ≡ take n c ++ drop n a)
-  lent t = told.lent x meets bytes t
+  lent t = told_laws.lent x meets bytes t
 
 -- "holds each link the objects state": the objects of a card's book are the card's, in turn, each with all its records
 pub whole_objects : (x : Card) → WholeObjects (objects_of (book_of x)) (card.objects_of x)
