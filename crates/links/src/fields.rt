@@ -3,7 +3,7 @@ ghost use Rattle.links.specs.Links.{object_at, field_in};
 ghost use Rattle.links.specs.Finding.{Within, objects_at};
 ghost use Rattle.links.specs.Serving.{place_of, PlacedAt, PlaceTold, FieldTold};
 
-use crate::objects::{find, next_object};
+use crate::finding::{find, next_object};
 use elements::Fault;
 use layouts::is_book;
 use rules::record_end;

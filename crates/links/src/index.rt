@@ -2,7 +2,7 @@
 ghost use Rattle.std.specs.Prelude.{◌≤◌, length};
 ghost use Rattle.links.specs.Finding.{Within, objects_at, Indexed};
 
-use crate::objects::{find, next_object};
+use crate::finding::{find, next_object};
 use crate::sorts::id_kind;
 use rules::{byte_at, record_end};
 

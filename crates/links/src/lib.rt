@@ -3,14 +3,14 @@
 
 mod chains;
 mod fields;
+mod finding;
 mod index;
 mod listing;
-mod objects;
 mod rows;
 mod sorts;
 
 pub use fields::{Place, field, field_place};
+pub use finding::next_object;
 pub use listing::{indexed, list};
-pub use objects::next_object;
 pub use rows::put_links;
 pub use sorts::{is_answering, is_closing, link_of};

@@ -7,7 +7,7 @@ ghost use Rattle.links.specs.Finding.{Within, objects_at, held_at, Indexed, Answ
 ghost use Rattle.links.specs.Chains.{Chained};
 
 use crate::chains::key;
-use crate::objects::next_object;
+use crate::finding::next_object;
 use crate::sorts::{is_answering, is_closing, link_of};
 use rules::{byte_at, record_end, same_bytes, store, word};
 

@@ -3,7 +3,7 @@ use lib.ListN.{length}
 use Rattle.links.specs.Links.{first_of}
 use Rattle.links.specs.Finding.{held_at}
 use Rattle.links.proofs.ObjectLaws.{Searching}
-use Rattle.links.proofs.objects.find.Given as goal
+use Rattle.links.proofs.finding.find.Given as goal
 
 abbrev pub invariant-loop-j : goal.invariant-loop-j
 invariant-loop-j l = Searching l.b l.kind l.j (first_of l.kind (held_at l.b l.i))

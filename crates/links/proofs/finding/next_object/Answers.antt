@@ -1,5 +1,5 @@
 use Rattle.links.proofs.ObjectLaws.{seeking_none, seeking_found, seeking_next, seeking_all}
-use Rattle.links.proofs.objects.next_object.Goals as goal
+use Rattle.links.proofs.finding.next_object.Goals as goal
 
 pub loop-j-init : goal.loop-j-init
 loop-j-init c = search seeking_none

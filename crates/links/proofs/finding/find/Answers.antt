@@ -1,5 +1,5 @@
 use Rattle.links.proofs.ObjectLaws.{searching_none, searching_closed, searching_found, searching_next, searching_all}
-use Rattle.links.proofs.objects.find.Goals as goal
+use Rattle.links.proofs.finding.find.Goals as goal
 
 pub loop-j-init : goal.loop-j-init
 loop-j-init c = search searching_none

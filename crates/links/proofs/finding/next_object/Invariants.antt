@@ -1,7 +1,7 @@
 use Prim.Native.Nat.{◌-◌}
 use lib.ListN.{length}
 use Rattle.links.proofs.ObjectLaws.{Seeking}
-use Rattle.links.proofs.objects.next_object.Given as goal
+use Rattle.links.proofs.finding.next_object.Given as goal
 
 abbrev pub invariant-loop-j : goal.invariant-loop-j
 invariant-loop-j l = Seeking l.b l.i l.j
