@@ -29,9 +29,9 @@ fn need(word: &str) -> Need {
     }
 }
 
-/// The lines `N => Line(0xTAG, 0xKIND, Form::.., Need::.., LOW, HIGH)`.
+/// The lines `Line(0xTAG, 0xKIND, Form::.., Need::.., LOW, HIGH)`.
 fn lines() -> Vec<Line> {
-    let inside = |line: &str| line.split_once("=> Line(")?.1.strip_suffix("),").map(str::to_string);
+    let inside = |line: &str| line.strip_prefix("Line(")?.strip_suffix("),").map(str::to_string);
     let line = |words: String| {
         let parts: Vec<&str> = words.split(',').collect();
         assert_eq!(parts.len(), 6, "{words}");
