@@ -9,17 +9,19 @@ mod link;
 mod run;
 mod show;
 
+use input::read_full;
 use std::io;
-use std::io::Read;
 
-// What the cases have to be shorter than.
-const ROOM: u64 = 524288;
+// Runs the cases that standard input holds, in a lent array.
+fn all(rt: &HostRuntime, buf: &mut [u8; 524288]) -> io::Result<()> {
+    let n = read_full(&mut rt.stdin(), buf)?;
+    if n == buf.len() {
+        return show::word(rt, b"THE CASES ARE TOO LONG\n");
+    }
+    run::lines(rt, &buf[..n])
+}
 
 fn main(rt: HostRuntime) -> io::Result<()> {
-    let mut cases = Vec::new(rt.alloc());
-    let n = rt.stdin().take(ROOM).read_to_end(&mut cases)?;
-    if n as u64 == ROOM {
-        return show::word(&rt, b"THE CASES ARE TOO LONG\n");
-    }
-    run::lines(&rt, cases.as_slice())
+    let mut buf = [0u8; 524288];
+    all(&rt, &mut buf)
 }

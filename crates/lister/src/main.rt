@@ -11,9 +11,9 @@ mod places;
 mod show;
 
 use ask::Question;
+use input::read_full;
 use layouts::Outcome;
 use std::io;
-use std::io::Read;
 
 // What is asked of a dump and its book, the list in lent numbers.
 fn answer(
@@ -68,15 +68,14 @@ fn of_book(
 
 fn main(rt: HostRuntime) -> io::Result<()> {
     // one byte more than a book may have: of a longer input the first 131,073 bytes are refused like the whole
-    let mut card = Vec::new(rt.alloc());
-    rt.stdin().take(131073).read_to_end(&mut card)?;
-    let card = card.as_slice();
+    let mut card = [0u8; 131073];
+    let n = read_full(&mut rt.stdin(), &mut card)?;
     // the other of the two, its book or its dump
     let mut other = [0u8; 65536];
     let mut rows = [0u32; 16384];
     let asked = ask::asked(&rt);
-    if ask::of_a_book(asked, card) {
-        return of_book(&rt, asked, card, &mut other, &mut rows);
+    if ask::of_a_book(asked, &card[..n]) {
+        return of_book(&rt, asked, &card[..n], &mut other, &mut rows);
     }
-    of_dump(&rt, asked, card, &mut other, &mut rows)
+    of_dump(&rt, asked, &card[..n], &mut other, &mut rows)
 }
