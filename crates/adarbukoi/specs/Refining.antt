@@ -1,29 +1,27 @@
 -- Item 3 of document 02, of the services as C sees them: "Each answer of 6 turns into just one of these, at the same place, and no other answer changes".
-use Rattle.std.specs.Prelude.{ℕ, ◌≤◌, ◌≡◌, refl, ◌⊎◌, false, List, eqb}
+use Rattle.std.specs.Prelude.{ℕ, ◌≤◌, ◌≡◌, refl, ◌⊎◌, false, List, eqb, Ok, Err}
 use Rattle.std.proofs.Common.{sym, ap, ◌∙◌, inl, inr, ne_eqb}
 use Rattle.std.proofs.lemmas.Bool.{eqb-false}
 use Rattle.elements.specs.declared.fault.Fault.{Fault}
 use Rattle.elements.specs.Faults.{number_of}
 use Rattle.elements.specs.Refines.{first_number_of, coarse, refines, split, unsplit}
 use Rattle.elements.specs.Lists.{Bytes}
-use Rattle.rules.specs.declared.outcome.Outcome.{Outcome}
-use Rattle.rules.specs.declared.outcome.Outcome.TheVariants.{Accepted, Refused}
+use Rattle.elements.specs.Answer.{Outcome}
+use Rattle.elements.specs.Answer as code
 use Rattle.layouts.specs.Service.{ReadTold, WriteTold, one_read, one_write}
 use Rattle.layouts.specs.Demands.{Short, NoBook, write_refusal}
-use Rattle.links.specs.declared.fields.Place.{Place}
-use Rattle.links.specs.declared.fields.Place.TheVariants as place
-use Rattle.links.specs.Serving.{ListTold, PlaceTold, one_list, one_place}
+use Rattle.links.specs.Serving.{Sought, ListTold, PlaceTold, one_list, one_place}
 use Rattle.links.specs.Refusals.{NoField, list_refusal, place_refusal}
 use Rattle.adarbukoi.specs.Exports.{code_of, number_in, Service, Exported, field_code, offset_in, size_in, FieldExported}
 
 -- what was answered before: 0, or the number that the fault had
 abbrev first_code : Outcome → ℕ
-first_code (Accepted n) = 0
-first_code (Refused f p) = first_number_of f
+first_code (Ok n) = 0
+first_code (Err r) = first_number_of r.0
 
-abbrev first_field_code : Place → ℕ
-first_field_code (place.At p n) = 0
-first_field_code (place.Refused f p) = first_number_of f
+abbrev first_field_code : Sought → ℕ
+first_field_code (Ok x) = 0
+first_field_code (Err r) = first_number_of r.0
 
 -- the service's own answer, told as it was before
 pub record FirstExported (service : Service) (s a b : List ℕ) (c n : ℕ) : Type 0 where
@@ -33,7 +31,7 @@ pub record FirstExported (service : Service) (s a b : List ℕ) (c n : ℕ) : Ty
   pub number : n ≡ number_in answer
 
 pub record FirstFieldExported (b : List ℕ) (i k c n l m : ℕ) : Type 0 where
-  pub answer : Place
+  pub answer : Sought
   pub served : PlaceTold b i k answer
   pub code : c ≡ first_field_code answer
   pub offset : n ≡ offset_in answer
@@ -41,8 +39,8 @@ pub record FirstFieldExported (b : List ℕ) (i k c n l m : ℕ) : Type 0 where
 
 -- an answer's code was the one that it has, with 61 to 68 taken to 6; "6 is no longer given"
 codes : (r : Outcome) → (first_code r ≡ coarse (code_of r)) × (eqb (code_of r) 6 ≡ false)
-codes (Accepted n) = (refl, refl)
-codes (Refused f p) = refines f
+codes (Ok n) = (refl, refl)
+codes (Err r) = refines r.0
 
 -- 14, 15 and 16 were what they are
 stays : (f : Fault) (n : ℕ) → number_of f ≡ n → coarse n ≡ n → first_number_of f ≡ number_of f
@@ -58,12 +56,12 @@ beside one h g =
 
 -- where no refusal's number changed, no answer did
 unchanged : {service : Service} {s a b e : List ℕ} {c d n m : ℕ} → ((q r : Outcome) → service s a b q → service s a e r → (q ≡ r) × (b ≡ e)) →
-    ((f : Fault) (p : ℕ) → service s a b (Refused f p) → first_number_of f ≡ number_of f) → FirstExported service s a b c n → Exported service s a e d m → (d ≡ c) × (m ≡ n) × (e ≡ b)
+    ((f : Fault) (p : ℕ) → service s a b (code.refused f p) → first_number_of f ≡ number_of f) → FirstExported service s a b c n → Exported service s a e d m → (d ≡ c) × (m ≡ n) × (e ≡ b)
 unchanged {service} {s} {a} {b} one same h g = let w = beside one h g in (w.0 ∙ sym (h.code ∙ go h.answer h.served), w.1, w.2)
   where
     go : (r : Outcome) → service s a b r → first_code r ≡ code_of r
-    go (Accepted k) t = refl
-    go (Refused f p) t = same f p t
+    go (Ok k) t = refl
+    go (Err r) t = same r.0 r.1 t
 
 -- 15 and 14 are what they were
 of_a_book : {Asked : List ℕ → Type 0} {x a : List ℕ} (f : Fault) {p : ℕ} → NoBook x f p ⊎ Short Asked a f p → first_number_of f ≡ number_of f
@@ -103,12 +101,12 @@ pub field_same : {b : List ℕ} {i k c d n m l x y : ℕ} → Bytes b → FirstF
 field_same {b} {i} {k} {l = l} bytes h g =
     let w = one_place h.served g.served in
     let t = g.told in
-    (t.code ∙ ap field_code (sym w) ∙ sym (h.code ∙ go h.answer h.served), t.offset ∙ ap offset_in (sym w) ∙ sym h.offset, t.size ∙ ap (λ (z : Place). size_in z l) (sym w) ∙ sym h.size)
+    (t.code ∙ ap field_code (sym w) ∙ sym (h.code ∙ go h.answer h.served), t.offset ∙ ap offset_in (sym w) ∙ sym h.offset, t.size ∙ ap (λ (z : Sought). size_in z l) (sym w) ∙ sym h.size)
   where
-    go : (r : Place) → PlaceTold b i k r → first_field_code r ≡ field_code r
-    go (place.At p q) t = refl
-    go (place.Refused f p) t = by (place_refusal bytes t)
+    go : (r : Sought) → PlaceTold b i k r → first_field_code r ≡ field_code r
+    go (Ok x) t = refl
+    go (Err r) t = by (place_refusal bytes t)
       where
-        by : NoBook b f p ⊎ NoField b i k f p → first_number_of f ≡ number_of f
-        by (inl z) = stays f 15 z.number refl
-        by (inr z) = stays f 16 z.number refl
+        by : NoBook b r.0 r.1 ⊎ NoField b i k r.0 r.1 → first_number_of r.0 ≡ number_of r.0
+        by (inl z) = stays r.0 15 z.number refl
+        by (inr z) = stays r.0 16 z.number refl

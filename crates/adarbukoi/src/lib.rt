@@ -1,28 +1,34 @@
 // The five services for C and Rust: numbers, slices, and a number lent for the length or place.
 #![tactic(auto)]
 
+ghost use Rattle.std.specs.Prelude.{◌≡◌};
+ghost use Rattle.elements.specs.Faults.{number_of};
 ghost use Rattle.layouts.specs.Service.{ReadTold, WriteTold};
 ghost use Rattle.links.specs.Serving.{ListTold};
 ghost use Rattle.adarbukoi.specs.Exports.{Told, Exported, PlaceSaid, FieldExported, WhySaid, WhyExported};
 
-use elements::number_of;
-use layouts::Outcome;
+use elements::Refusal;
 use links::Place;
 use why::Why;
 
+// A refusal's number, with its place.
+fn refused(r: Refusal, place: &mut u64) -> u32
+    ensures { (result ≡ number_of r.0) × (place.new ≡ r.1) }
+{
+    *place = r.1 as u64;
+    u32::from(r.0)
+}
+
 // 0 with the length, or the refusal's number with its place.
-fn tell(r: Outcome, number: &mut u64) -> u32
+fn tell(r: Result<usize, Refusal>, number: &mut u64) -> u32
     ensures { Told r result number.new }
 {
     match r {
-        Outcome::Accepted(n) => {
+        Ok(n) => {
             *number = n as u64;
             0
         }
-        Outcome::Refused(f, p) => {
-            *number = p as u64;
-            number_of(f)
-        }
+        Err(e) => refused(e, number),
     }
 }
 
@@ -48,19 +54,16 @@ pub fn adarbukoi_list(book: &[u8], rows: &mut [u32], told: &mut u64) -> u32
 }
 
 // A field's payload: its book offset and length.
-fn place(r: Place, offset: &mut u64, size: &mut u64) -> u32
+fn place(r: Result<Place, Refusal>, offset: &mut u64, size: &mut u64) -> u32
     ensures { PlaceSaid r result offset.new size.old size.new }
 {
     match r {
-        Place::At(p, n) => {
-            *offset = p as u64;
-            *size = n as u64;
+        Ok(x) => {
+            *offset = x.at as u64;
+            *size = x.size as u64;
             0
         }
-        Place::Refused(f, p) => {
-            *offset = p as u64;
-            number_of(f)
-        }
+        Err(e) => refused(e, offset),
     }
 }
 
@@ -72,39 +75,20 @@ pub fn adarbukoi_field(book: &[u8], object: u32, kind: u32, offset: &mut u64, si
 }
 
 // An answer of why: 1 met, 2 no object of the class, 3 elsewhere, 4 nowhere; with the record's offset and kind, or 0 and 0.
-fn reason(r: Why, answer: &mut u32, offset: &mut u64, kind: &mut u32) -> u32
+fn reason(r: Result<Why, Refusal>, answer: &mut u32, offset: &mut u64, kind: &mut u32) -> u32
     ensures { WhySaid r result answer.old answer.new offset.new kind.old kind.new }
 {
-    match r {
-        Why::Met(p, k) => {
-            *answer = 1;
-            *offset = p as u64;
-            *kind = k;
-            0
-        }
-        Why::NoObject => {
-            *answer = 2;
-            *offset = 0;
-            *kind = 0;
-            0
-        }
-        Why::Elsewhere(p, k) => {
-            *answer = 3;
-            *offset = p as u64;
-            *kind = k;
-            0
-        }
-        Why::Nowhere => {
-            *answer = 4;
-            *offset = 0;
-            *kind = 0;
-            0
-        }
-        Why::Refused(f, p) => {
-            *offset = p as u64;
-            number_of(f)
-        }
-    }
+    let (a, p, k) = match r {
+        Ok(Why::Met(p, k)) => (1, p, k),
+        Ok(Why::NoObject) => (2, 0, 0),
+        Ok(Why::Elsewhere(p, k)) => (3, p, k),
+        Ok(Why::Nowhere) => (4, 0, 0),
+        Err(e) => return refused(e, offset),
+    };
+    *answer = a;
+    *offset = p as u64;
+    *kind = k;
+    0
 }
 
 // Why a row of a book's list is as it is; on a refusal answer and kind stay.

@@ -1,12 +1,10 @@
 -- "12 paths" and "13 twice": what each check passes, and where it refuses.
 use Prim.Native.Nat.{ℕ, zero, suc, ◌-◌, ◌≤◌}
-use Rattle.std.specs.Prelude.{List, [], ◌∷◌, Bool, true, false, ◌||◌, ◌≡◌, refl, get_or, drop, ltb, eqb, T}
+use Rattle.std.specs.Prelude.{List, [], ◌∷◌, Bool, true, false, ◌||◌, ◌≡◌, refl, get_or, drop, ltb, eqb, T, Err, Ok}
 use Rattle.std.proofs.Common.{sym, arith, ltb-false, le-ltb, eqb-true}
 use Rattle.std.proofs.Math.Nat.{le_trans}
 use Rattle.std.proofs.Math.ListN.{length}
 use Rattle.elements.specs.declared.fault.Fault.{Fault}
-use Rattle.elements.specs.declared.answer.Head.{Head}
-use Rattle.elements.specs.declared.answer.Head.TheVariants.{At, No}
 use Rattle.elements.specs.ChoiceLaws.{by_choose}
 use Rattle.elements.specs.Header.{header}
 use Rattle.elements.specs.HeaderLaws.{header_in}
@@ -19,6 +17,7 @@ use Rattle.rules.specs.TestLaws.{clash}
 use Rattle.rules.specs.EqualLaws.{equal_is, equal_self}
 use Rattle.rules.specs.Pays.{pays, ids_of}
 use Rattle.cards.specs.Card.{NotIn, Distinct}
+use Rattle.elements.specs.Answer.{Head}
 
 -- what meets none of these is not one of them
 met_none : (x : List ℕ) (ys : List (List ℕ)) → met x ys ≡ false → NotIn x ys
@@ -89,8 +88,8 @@ module _ (s : List ℕ) where
   end_of_lem end at h = go (header s at end) refl
     where
       go : (w : Head) → header s at end ≡ w → end_of s at w ≤ end
-      go (No f p) q = h
-      go (At t a e) q = (header_in s at end q).2
+      go (Err r) q = h
+      go (Ok x) q = (header_in s at end q).2
 
   -- 12's place lies in the dump
   pub entry_place_lem : (g m end at : ℕ) → at ≤ end → end ≤ length s → entry_place s g m end at ≤ length s

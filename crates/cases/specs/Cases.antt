@@ -1,9 +1,8 @@
 -- The P cases of document 01, with the numbers that document 02 gives: one table, one statement.
-use Rattle.std.specs.Prelude.{ℕ, ◌≡◌, refl, List, [], ◌∷◌, map, true, false, length}
+use Rattle.std.specs.Prelude.{ℕ, ◌≡◌, refl, List, [], ◌∷◌, map, Bool, true, false, length, Ok, Err}
 use Rattle.elements.specs.declared.answer.Form.{Form}
 use Rattle.elements.specs.declared.answer.Form.TheVariants.{Integer, Bits, Time}
-use Rattle.elements.specs.declared.answer.Read.{Read}
-use Rattle.elements.specs.declared.answer.Read.TheVariants.{Took, Refused}
+use Rattle.elements.specs.Answer.{Read}
 use Rattle.elements.specs.Faults.{number_of}
 use Rattle.elements.specs.Header.{header, high_tag, further, length_at, long1, long2, long2_of, fitted}
 use Rattle.elements.specs.Integer.{integer, whole, padded, magnitude, bare, big}
@@ -27,10 +26,13 @@ pub data Answer : Type 0 where
   -- the rows of a book's links, four numbers a row
   rows : List ℕ → Answer
 
+abbrev signed : Bool → ℕ → ℕ → Answer
+signed false m e = is m e
+signed true m e = minus m e
+
 abbrev answer : Read → Answer
-answer (Took false m e) = is m e
-answer (Took true m e) = minus m e
-answer (Refused f p) = refused (number_of f) p
+answer (Ok x) = signed x.0.0 x.0.1 x.1
+answer (Err r) = refused (number_of r.0) r.1
 
 abbrev shown : Seen → Answer
 shown (book b) = accepted (length b)

@@ -2,12 +2,16 @@
 #![tactic(auto)]
 
 mod book;
+mod command;
 mod dump;
 mod element;
 mod hex;
+mod lent;
 mod link;
 mod run;
 mod show;
+mod stop;
+mod text;
 
 use input::read_full;
 use std::io;
@@ -16,7 +20,7 @@ use std::io;
 fn all(rt: &HostRuntime, buf: &mut [u8; 524288]) -> io::Result<()> {
     let n = read_full(&mut rt.stdin(), buf)?;
     if n == buf.len() {
-        return show::word(rt, b"THE CASES ARE TOO LONG\n");
+        return println!(rt; "THE CASES ARE TOO LONG");
     }
     run::lines(rt, &buf[..n])
 }

@@ -8,13 +8,13 @@ use lib.ListN.{length, get_or, drop, drop_of_length-le}
 use lib.Dec.{leb, T}
 use borrow.Author.Tests.{lt-ltb, le-ltb, lt-leb, le-leb}
 use Rattle.elements.specs.declared.fault.Fault.TheVariants.{BadText}
-use Rattle.elements.specs.declared.answer.Value.{Value}
-use Rattle.elements.specs.declared.answer.Value.TheVariants.{Wrong}
 use Rattle.elements.specs.Told.{told}
 use Rattle.elements.specs.Text.{due, rows, text_from}
 use Rattle.elements.specs.TextLaws.{level}
 use Rattle.elements.specs.Utf8.{byte, utf8_tail, three, four, utf8_1, utf8_2, utf8_3, utf8_4, utf8_char}
 use Rattle.elements.specs.Utf8Laws.{passes, three_range, four_range, Turn, no_char, one_char, turn}
+use Rattle.elements.specs.Answer.{Value}
+use Rattle.std.specs.Prelude.{Err}
 
 -- one test after the other
 and_no : {w x r : Bool} (y : Bool) → w ≡ (x && y) → r ≡ x → r ≡ false → r ≡ w
@@ -133,10 +133,10 @@ module _ (c : List ℕ) (i : ℕ) {o : Bool} (a : o ≡ utf8_1 c i) where
 
 -- a turn of the loop
 module _ (c : List ℕ) (i n : ℕ) (v : Value) (left : text_from (due 0 0 0) n (drop i c) ≡ v) {k : ℕ} (is : k ≡ utf8_char c i) (inside : i < length c) where
-  pub octets_never : k ≡ 0 → Wrong BadText ≡ v
+  pub octets_never : k ≡ 0 → Err BadText ≡ v
   octets_never z = go (turn c i n inside)
     where
-      go : Turn c i n → Wrong BadText ≡ v
+      go : Turn c i n → Err BadText ≡ v
       go (no_char e f) = sym f ∙ left
       go (one_char m e l f) = absurd (omega (arith, is ∙ e))
 

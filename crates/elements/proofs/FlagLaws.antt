@@ -8,12 +8,12 @@ use Rattle.std.proofs.lemmas.Bool.{eqb-false}
 use Rattle.elements.specs.Lists.{Bytes}
 use Rattle.elements.specs.ChoiceLaws.{all_both, both_true}
 use Rattle.elements.specs.Says.{Says, wrong, says, by_test, said}
-use Rattle.elements.specs.declared.answer.Value.TheVariants.{Of}
 use Rattle.elements.specs.Bits.{reversed, weigh, bits_of, bits, width, flag_run, flag_bytes}
 use Rattle.elements.specs.declared.answer.Form.TheVariants as form
 use Rattle.elements.specs.Encodings.{Encodes}
 use Rattle.elements.specs.ToldLaws.{least_is}
 use Rattle.elements.specs.BitsLaws.{reversed_small}
+use Rattle.elements.specs.Answer.{of}
 
 -- tests that are computed for every number below n
 abbrev every : ℕ → (ℕ → Bool) → Bool
@@ -163,7 +163,7 @@ bits_says (u ∷ x ∷ l) b =
     (λ _. wrong)) (λ _. wrong)))
 
 -- contents that are read as named bits are the encoding of the flag word told
-pub bits_sound : (c : List ℕ) → Bytes c → {n : Bool} {m : ℕ} → bits c ≡ Of n m → Encodes form.Bits c n m
+pub bits_sound : (c : List ℕ) → Bytes c → {n : Bool} {m : ℕ} → bits c ≡ of n m → Encodes form.Bits c n m
 bits_sound c b e = said (bits_says c b) e
 
 run_length : (k w : ℕ) → length (flag_run k w) ≡ k
@@ -188,13 +188,13 @@ run_back (suc k) u e w h q t =
     let r = run_back k u (e - 8) (w / 256) h (omega arith) (record { from = omega (arith, t.from); to = omega (arith, t.to) }) in
     record { weighs = rw (r.weighs, twice (w % 256) (omega arith)) (omega arith); ends = r.ends }
 
-read_closed : (u x : ℕ) (l : List ℕ) → u < 8 → closes u (get_or (x ∷ l) (length l) 0) ≡ true → length l ≤ 3 → bits (u ∷ x ∷ l) ≡ Of false (weigh (x ∷ l))
+read_closed : (u x : ℕ) (l : List ℕ) → u < 8 → closes u (get_or (x ∷ l) (length l) 0) ≡ true → length l ≤ 3 → bits (u ∷ x ∷ l) ≡ of false (weigh (x ∷ l))
 unfolding bits bits_of
 read_closed u x l h c k =
     let b = both_true (eqb (get_or (x ∷ l) (length l) 0 % 2 ^ u) 0) (eqb (get_or (x ∷ l) (length l) 0 / 2 ^ u % 2) 1) c in
     rw (ne_eqb (length (u ∷ x ∷ l)) 0 (omega arith), le-ltb 7 u (omega arith), ne_eqb (length (u ∷ x ∷ l)) 1 (omega arith), last_at u x l, b.0, b.1, le-leb ((length (u ∷ x ∷ l) - 1) * 8 - u) 32 (omega arith))
 
-top_read : (j w : ℕ) → j < 32 → Top j w → bits (flag_bytes w) ≡ Of false w
+top_read : (j w : ℕ) → j < 32 → Top j w → bits (flag_bytes w) ≡ of false w
 unfolding flag_run
 top_read j w h t =
     let u : ℕ = 7 - j % 8 in
@@ -202,10 +202,10 @@ top_read j w h t =
     let r : Back u (j / 8) w = run_back (j / 8) u j w (omega arith) q t in
     let n : length (flag_run (j / 8) (w / 256)) ≡ j / 8 = run_length (j / 8) (w / 256) in
     rw (flags_are u (suc (j / 8)) j w (omega arith) q h t)
-    (read_closed u (reversed (w % 256)) (flag_run (j / 8) (w / 256)) (omega arith) (rw n r.ends) (omega arith) ∙ ap (λ m. Of false m) r.weighs)
+    (read_closed u (reversed (w % 256)) (flag_run (j / 8) (w / 256)) (omega arith) (rw n r.ends) (omega arith) ∙ ap (λ m. of false m) r.weighs)
 
 -- the encoding of every flag word is read, and as that word
-pub bits_complete : (m : ℕ) → m < 2 ^ 32 → bits (flag_bytes m) ≡ Of false m
+pub bits_complete : (m : ℕ) → m < 2 ^ 32 → bits (flag_bytes m) ≡ of false m
 unfolding bits
 bits_complete zero h = rw none_set
 bits_complete (suc w) h =

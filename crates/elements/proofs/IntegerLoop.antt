@@ -12,8 +12,8 @@ use lib.ListN.{drop_of_length-le}
 use lib.Dec.{ltb}
 use borrow.Author.Tests.{le-ltb, ltb-false}
 use Rattle.elements.specs.ChoiceLaws.{by_pick}
-use Rattle.elements.specs.declared.answer.Value.TheVariants.{Of}
 use Rattle.elements.specs.Integer.{most, least, digit, bare, big, beyond, magnitude}
+use Rattle.elements.specs.Answer.{of}
 
 grows : (v : ℕ) (l : List ℕ) → v ≤ big v l
 unfolding big
@@ -40,7 +40,7 @@ module _ {c : List ℕ} {n : Bool} {v i d : ℕ} (h : Sum c n v i) (l : i < leng
   sum_more k = record { inside = omega arith; small = k; same = one_more }
 
   -- past the largest magnitude told, whatever follows
-  pub sum_past : most ≤ v * 256 + d → Of n most ≡ magnitude n c
+  pub sum_past : most ≤ v * 256 + d → of n most ≡ magnitude n c
   unfolding magnitude
   sum_past k =
       let g : v * 256 + d ≤ big 0 (bare n c) = rw one_more at (grows (v * 256 + d) (bare n (drop (i + 1) c))) in
@@ -51,12 +51,12 @@ module _ {c : List ℕ} {n : Bool} {v i : ℕ} (h : Sum c n v i) (l : length c �
   unfolding big bare
   all = rw (drop_of_length-le c l) at h.same
 
-  told : (m : ℕ) → m ≡ v + beyond n → m ≤ most → Of n m ≡ magnitude n c
+  told : (m : ℕ) → m ≡ v + beyond n → m ≤ most → of n m ≡ magnitude n c
   unfolding magnitude
   told m e k = rw (← all, ← e, least_is m most k)
 
-  pub sum_false : n ≡ false → Of false v ≡ magnitude n c
+  pub sum_false : n ≡ false → of false v ≡ magnitude n c
   sum_false e = rw (← e) (told v (rw e (omega arith)) (omega arith))
 
-  pub sum_true : n ≡ true → Of true (v + 1) ≡ magnitude n c
+  pub sum_true : n ≡ true → of true (v + 1) ≡ magnitude n c
   sum_true e = rw (← e) (told (v + 1) (rw e) (omega arith))

@@ -1,10 +1,9 @@
 pub mod Auto
 pub mod Loops
 pub mod FurtherLaws
-pub mod AmongLaws
 pub mod RunLaws
 pub mod IntegerLoop
-pub mod PutLoops
+pub mod PartLaws
 pub mod KeyLaws
 pub mod ScanLaws
 pub mod CharLaws

@@ -4,7 +4,6 @@ use Rattle.std.proofs.Common.{arith, eqb-true, ne_eqb}
 use Rattle.elements.specs.Lists.{Bytes}
 use Rattle.elements.specs.declared.answer.Form.{Form}
 use Rattle.elements.specs.declared.answer.Form.TheVariants as form
-use Rattle.elements.specs.declared.answer.Value.TheVariants.{Of}
 use Rattle.elements.specs.Boolean.{boolean, boolean_bytes}
 use Rattle.elements.specs.Told.{told}
 use Rattle.elements.specs.Values.{null, value}
@@ -15,6 +14,7 @@ use Rattle.elements.specs.IntegerLaws.{integer_sound, integer_complete}
 use Rattle.elements.proofs.FlagLaws.{bits_sound, bits_complete}
 use Rattle.elements.specs.TextLaws.{text_sound, text_complete}
 use Rattle.elements.specs.TimeLaws.{time_sound, time_complete}
+use Rattle.elements.specs.Answer.{of}
 
 boolean_says : (c : List ℕ) → Says (Encodes form.Boolean c) (boolean c)
 unfolding boolean boolean_bytes
@@ -24,7 +24,7 @@ boolean_says (x ∷ []) =
     by_test (eqb x 255) (λ t. says {n = false} {m = 1} (record { worth = 1; proper = omega arith; bytes = rw (eqb-true x 255 t); told = (refl, refl) })) (λ _. wrong))
 boolean_says (x ∷ y ∷ l) = rw (ne_eqb (length (x ∷ y ∷ l)) 1 (omega arith)) wrong
 
-boolean_complete : (m : ℕ) → m < 2 → boolean (boolean_bytes m) ≡ Of false m
+boolean_complete : (m : ℕ) → m < 2 → boolean (boolean_bytes m) ≡ of false m
 unfolding boolean boolean_bytes
 boolean_complete zero h = refl
 boolean_complete (suc zero) h = refl
@@ -40,7 +40,7 @@ unfolding told
 octets_says c = says (record { worth = c; proper = tt; bytes = refl; told = (refl, refl) })
 
 -- what is read is an encoding of what is told
-pub value_sound : (f : Form) (c : List ℕ) → Bytes c → {n : Bool} {m : ℕ} → value f c ≡ Of n m → Encodes f c n m
+pub value_sound : (f : Form) (c : List ℕ) → Bytes c → {n : Bool} {m : ℕ} → value f c ≡ of n m → Encodes f c n m
 unfolding value
 value_sound form.Boolean c b e = said (boolean_says c) e
 value_sound form.Integer c b e = integer_sound c b e
@@ -51,7 +51,7 @@ value_sound form.Time c b e = let t = time_sound c e in record { worth = c; prop
 value_sound form.Octets c b e = said (octets_says c) e
 
 -- and every encoding is read, as its value
-pub value_complete : (f : Form) (c : List ℕ) {n : Bool} {m : ℕ} → Encodes f c n m → value f c ≡ Of n m
+pub value_complete : (f : Form) (c : List ℕ) {n : Bool} {m : ℕ} → Encodes f c n m → value f c ≡ of n m
 unfolding value null told
 value_complete form.Boolean c e = rw (e.bytes, e.told.0, e.told.1, least_is e.worth (omega (arith, e.proper))) (boolean_complete e.worth e.proper)
 value_complete form.Integer c e = rw e.bytes (integer_complete e.worth e.told)

@@ -1,10 +1,9 @@
 -- "Named-bit strings: unused bits zero, trailing zero bits removed (none set is 03 01 00), at most 32 bits; named bit i becomes 2^i in the book."
-use Rattle.std.specs.Prelude.{ℕ, zero, suc, ◌+◌, ◌-◌, ◌*◌, ◌/◌, ◌%◌, ◌^◌, List, [], ◌∷◌, false, length, get_or, drop, ltb, leb, eqb}
+use Rattle.std.specs.Prelude.{ℕ, zero, suc, ◌+◌, ◌-◌, ◌*◌, ◌/◌, ◌%◌, ◌^◌, List, [], ◌∷◌, false, length, get_or, drop, ltb, leb, eqb, Err}
 use Rattle.std.specs.Int.Count.{count_leading_zeros}
 use Rattle.elements.specs.Choice.{pick}
 use Rattle.elements.specs.declared.fault.Fault.TheVariants.{BadBits, TrailingBits, ManyBits}
-use Rattle.elements.specs.declared.answer.Value.{Value}
-use Rattle.elements.specs.declared.answer.Value.TheVariants.{Of, Wrong}
+use Rattle.elements.specs.Answer.{Value, of}
 
 -- bit i of a byte, counted from the most significant, is 2^i
 unfoldable pub reversed : ℕ → ℕ
@@ -20,16 +19,16 @@ unfoldable pub bits_of : List ℕ → ℕ → ℕ → Value
 bits_of c u last =
     pick (eqb (last % 2 ^ u) 0)
     (pick (eqb (last / 2 ^ u % 2) 1)
-    (pick (leb ((length c - 1) * 8 - u) 32) (Of false (weigh (drop 1 c))) (Wrong ManyBits))
-    (Wrong TrailingBits))
-    (Wrong BadBits)
+    (pick (leb ((length c - 1) * 8 - u) 32) (of false (weigh (drop 1 c))) (Err ManyBits))
+    (Err TrailingBits))
+    (Err BadBits)
 
 -- the first byte counts the unused bits
 unfoldable pub bits : List ℕ → Value
 bits c =
-    pick (eqb (length c) 0) (Wrong BadBits)
-    (pick (ltb 7 (get_or c 0 0)) (Wrong BadBits)
-    (pick (eqb (length c) 1) (pick (eqb (get_or c 0 0) 0) (Of false 0) (Wrong BadBits))
+    pick (eqb (length c) 0) (Err BadBits)
+    (pick (ltb 7 (get_or c 0 0)) (Err BadBits)
+    (pick (eqb (length c) 1) (pick (eqb (get_or c 0 0) 0) (of false 0) (Err BadBits))
     (bits_of c (get_or c 0 0) (get_or c (length c - 1) 0))))
 
 -- the way back: "byte count and unused bits of a written flag word come from its count of leading zeros"

@@ -8,13 +8,12 @@ use Rattle.std.proofs.Math.ListN.{get_or}
 use Rattle.std.proofs.Math.Seq.{slice, length-slice}
 use borrow.Author.Tests.{ltb-true, ltb-false, leb-true, leb-false, eqb-true, eqb-false, lt-ltb, le-ltb, le-leb, lt-leb, ne_eqb}
 use Rattle.elements.specs.declared.fault.Fault.{Fault}
-use Rattle.elements.specs.declared.answer.Head.{Head}
-use Rattle.elements.specs.declared.answer.Head.TheVariants.{At, No}
 use Rattle.elements.specs.ChoiceLaws.{by_pick, by_choose, by_less}
 use Rattle.elements.specs.Lists.{Bytes, join, cons, one, Begins, begins, ends}
 use Rattle.elements.specs.Encodings.{Der}
 use Rattle.elements.specs.Length.{shortest, wrap, sevens, tag_bytes}
 use Rattle.elements.specs.Header.{fitted, long1, long2_of, long2, length_at, further, high_tag, header}
+use Rattle.elements.specs.Answer.{Head, found, refused}
 
 -- the bytes from `at` to p are a tag
 record Tag (s : List ℕ) (at b p : ℕ) : Type 0 where
@@ -32,9 +31,9 @@ record Len (s : List ℕ) (p q n : ℕ) : Type 0 where
   pub bytes : slice p q s ≡ shortest n
 
 -- what an answer says; that it is DER needs bytes, and a container within them
-data Ok (s : List ℕ) (at end : ℕ) : Head → Type 0 where
-  refuses : {f : Fault} (p : ℕ) → (at ≤ end → (at ≤ p) × (p ≤ end)) → Ok s at end (No f p)
-  takes : {b : ℕ} (a e : ℕ) → (at + 2 ≤ a) × (a ≤ e) × (e ≤ end) → (Bytes s → end ≤ length s → Der s at end b a e) → Ok s at end (At b a e)
+data Sound (s : List ℕ) (at end : ℕ) : Head → Type 0 where
+  refuses : {f : Fault} (p : ℕ) → (at ≤ end → (at ≤ p) × (p ≤ end)) → Sound s at end (refused f p)
+  takes : {b : ℕ} (a e : ℕ) → (at + 2 ≤ a) × (a ≤ e) × (e ≤ end) → (Bytes s → end ≤ length s → Der s at end b a e) → Sound s at end (found b a e)
 
 -- the bytes of tags and lengths
 tag_low : (k n : ℕ) → n < 31 → tag_bytes k n ≡ (k * 32 + n) ∷ []
@@ -70,14 +69,14 @@ unfolding shortest
 len3 n h g = let d : n / 256 % 256 ≡ n / 256 = omega arith in rw (le-ltb n 128 (omega arith), le-ltb n 256 h, d) refl
 
 module _ (s : List ℕ) (at end : ℕ) where
-  here : {f : Fault} → Ok s at end (No f at)
+  here : {f : Fault} → Sound s at end (refused f at)
   here = refuses at (λ h. (omega arith, h))
 
   module _ (b p : ℕ) (past : at < p) (tag : Bytes s → end ≤ length s → Tag s at b p) where
-    fitted_ok : (q n : ℕ) → p < q → q ≤ end → (Bytes s → end ≤ length s → Len s p q n) → Ok s at end (fitted at end b q n)
+    fitted_ok : (q n : ℕ) → p < q → q ≤ end → (Bytes s → end ≤ length s → Len s p q n) → Sound s at end (fitted at end b q n)
     unfolding fitted
     fitted_ok q n h g len =
-        by_pick (Ok s at end) (leb n (end - q))
+        by_pick (Sound s at end) (leb n (end - q))
         (λ t.
         let l : n ≤ end - q = leb-true n (end - q) t in
         takes q (q + n) (omega arith, omega arith, omega arith) (λ c k.
@@ -98,31 +97,31 @@ module _ (s : List ℕ) (at end : ℕ) where
         }))
         (λ _. here)
 
-    length_ok : Ok s at end (length_at s at end b p)
+    length_ok : Sound s at end (length_at s at end b p)
     unfolding length_at long1 long2 long2_of
     length_ok =
         let q = p + 1 in
         let x = get_or s p 0 in
         let y = get_or s q 0 in
         let z = get_or s (q + 1) 0 in
-        by_pick (Ok s at end) (leb end p) (λ _. here) λ t.
+        by_pick (Sound s at end) (leb end p) (λ _. here) λ t.
         let i : p < end = leb-false end p t in
-        by_pick (Ok s at end) (ltb x 128) (λ u.
+        by_pick (Sound s at end) (ltb x 128) (λ u.
         fitted_ok q x (omega arith) (omega arith) (λ c k.
         let l : x < 128 = ltb-true x 128 u in
         record { short = omega arith; bytes = one s p (omega arith) ∙ sym (len1 x l) })) λ _.
-        by_pick (Ok s at end) (eqb x 129) (λ u.
-        by_pick (Ok s at end) (leb end q) (λ _. here) λ v.
+        by_pick (Sound s at end) (eqb x 129) (λ u.
+        by_pick (Sound s at end) (leb end q) (λ _. here) λ v.
         let j : q < end = leb-false end q v in
-        by_pick (Ok s at end) (ltb y 128) (λ _. here) λ w.
+        by_pick (Sound s at end) (ltb y 128) (λ _. here) λ w.
         fitted_ok (q + 1) y (omega arith) (omega arith) (λ c k. record {
           short = omega (arith, c q);
           bytes = cons s p (q + 1) (omega arith) (omega arith) ∙ rw (one s q (omega arith), eqb-true x 129 u, len2 y (ltb-false y 128 w) (c q)) refl;
         })) λ _.
-        by_pick (Ok s at end) (eqb x 130) (λ u.
-        by_pick (Ok s at end) (ltb (end - q) 2) (λ _. here) λ v.
+        by_pick (Sound s at end) (eqb x 130) (λ u.
+        by_pick (Sound s at end) (ltb (end - q) 2) (λ _. here) λ v.
         let j : 2 ≤ end - q = ltb-false (end - q) 2 v in
-        by_pick (Ok s at end) (ltb (y * 256 + z) 256) (λ _. here) λ w.
+        by_pick (Sound s at end) (ltb (y * 256 + z) 256) (λ _. here) λ w.
         fitted_ok (q + 2) (y * 256 + z) (omega arith) (omega arith) (λ c k. record {
           short = omega (arith, c q, c (q + 1));
           bytes =
@@ -175,7 +174,7 @@ module _ (s : List ℕ) (at end : ℕ) where
         bytes = cc (cons s at q (omega arith) (omega arith), tag_high (b / 32) n l);
       }
 
-  high_ok : at < end → get_or s at 0 % 32 ≡ 31 → Ok s at end (high_tag s at end (get_or s at 0) (at + 1))
+  high_ok : at < end → get_or s at 0 % 32 ≡ 31 → Sound s at end (high_tag s at end (get_or s at 0) (at + 1))
   unfolding high_tag further
   high_ok h high =
       let b = get_or s at 0 in
@@ -183,21 +182,21 @@ module _ (s : List ℕ) (at end : ℕ) where
       let x = get_or s p 0 in
       let y = get_or s (p + 1) 0 in
       let z = get_or s (p + 1 + 1) 0 in
-      by_pick (Ok s at end) (leb end p) (λ _. here) λ t.
+      by_pick (Sound s at end) (leb end p) (λ _. here) λ t.
       let i : p < end = leb-false end p t in
-      by_pick (Ok s at end) (ltb x 31) (λ _. here) λ u.
+      by_pick (Sound s at end) (ltb x 31) (λ _. here) λ u.
       let l : 31 ≤ x = ltb-false x 31 u in
-      by_pick (Ok s at end) (eqb x 128) (λ _. here) λ v.
+      by_pick (Sound s at end) (eqb x 128) (λ _. here) λ v.
       let ne : x ≡ 128 → ⊥ = eqb-false x 128 v in
-      by_pick (Ok s at end) (leb end p) (λ _. here) λ _.
-      by_choose (Ok s at end) (ltb x 128) (λ _ w.
+      by_pick (Sound s at end) (leb end p) (λ _. here) λ _.
+      by_choose (Sound s at end) (ltb x 128) (λ _ w.
       length_ok b (p + 1) (omega arith) (λ c k.
       let o : x < 128 = ltb-true x 128 w in
       high_tag_lem high c k x (p + 1) (omega arith) (omega arith) l (omega arith) (cc (one s p (omega arith), seven1 x o)))) λ _ w.
       let o : 128 ≤ x = ltb-false x 128 w in
-      by_pick (Ok s at end) (leb end (p + 1)) (λ _. here) λ t2.
+      by_pick (Sound s at end) (leb end (p + 1)) (λ _. here) λ t2.
       let i2 : p + 1 < end = leb-false end (p + 1) t2 in
-      by_choose (Ok s at end) (ltb y 128) (λ _ w2.
+      by_choose (Sound s at end) (ltb y 128) (λ _ w2.
       length_ok b (p + 1 + 1) (omega arith) (λ c k.
       let o2 : y < 128 = ltb-true y 128 w2 in
       let cx : x < 256 = c p in
@@ -208,9 +207,9 @@ module _ (s : List ℕ) (at end : ℕ) where
       high_tag_lem high c k n q (omega arith) (omega arith) (omega arith) (omega arith)
       (cc (cons s p q (omega arith) (omega arith), one s (p + 1) (omega arith), seven2 n (omega arith) (omega arith))))) λ _ w2.
       let o2 : 128 ≤ y = ltb-false y 128 w2 in
-      by_pick (Ok s at end) (leb end (p + 1 + 1)) (λ _. here) λ t3.
+      by_pick (Sound s at end) (leb end (p + 1 + 1)) (λ _. here) λ t3.
       let i3 : p + 1 + 1 < end = leb-false end (p + 1 + 1) t3 in
-      by_choose (Ok s at end) (ltb z 128) (λ _ w3.
+      by_choose (Sound s at end) (ltb z 128) (λ _ w3.
       length_ok b (p + 1 + 1 + 1) (omega arith) (λ c k.
       let o3 : z < 128 = ltb-true z 128 w3 in
       let cx : x < 256 = c p in
@@ -223,39 +222,39 @@ module _ (s : List ℕ) (at end : ℕ) where
       high_tag_lem high c k n q (omega arith) (omega arith) (omega arith) (omega arith)
       (cc (cons s p q (omega arith) (omega arith), cons s (p + 1) q (omega arith) (omega arith), one s (p + 1 + 1) (omega arith), seven3 n (omega arith))))) λ _ _. here
 
-  header_ok : Ok s at end (header s at end)
+  header_ok : Sound s at end (header s at end)
   unfolding header
   header_ok =
       let b = get_or s at 0 in
-      by_pick (Ok s at end) (leb end at) (λ _. refuses end (λ h. (h, omega arith))) λ t.
+      by_pick (Sound s at end) (leb end at) (λ _. refuses end (λ h. (h, omega arith))) λ t.
       let i : at < end = leb-false end at t in
-      by_pick (Ok s at end) (eqb b 0) (λ _. here) λ u.
-      by_pick (Ok s at end) (eqb (b % 32) 31) (λ v. high_ok i (eqb-true (b % 32) 31 v)) λ v.
+      by_pick (Sound s at end) (eqb b 0) (λ _. here) λ u.
+      by_pick (Sound s at end) (eqb (b % 32) 31) (λ v. high_ok i (eqb-true (b % 32) 31 v)) λ v.
       length_ok b (at + 1) (omega arith) (low_tag_lem i (eqb-false b 0 u) (eqb-false (b % 32) 31 v))
 
 -- an accepted element lies in its container, and has a tag and a length
-pub header_in : (s : List ℕ) (at end : ℕ) {b a e : ℕ} → header s at end ≡ At b a e → (at + 2 ≤ a) × (a ≤ e) × (e ≤ end)
-header_in s at end {b} {a} {e} q = go (subst (Ok s at end) q (header_ok s at end))
+pub header_in : (s : List ℕ) (at end : ℕ) {b a e : ℕ} → header s at end ≡ found b a e → (at + 2 ≤ a) × (a ≤ e) × (e ≤ end)
+header_in s at end {b} {a} {e} q = go (subst (Sound s at end) q (header_ok s at end))
   where
-    go : Ok s at end (At b a e) → (at + 2 ≤ a) × (a ≤ e) × (e ≤ end)
+    go : Sound s at end (found b a e) → (at + 2 ≤ a) × (a ≤ e) × (e ≤ end)
     go (takes _ _ h _) = h
 
 -- what is accepted is DER
-pub header_sound : (s : List ℕ) (at end : ℕ) {b a e : ℕ} → Bytes s → end ≤ length s → header s at end ≡ At b a e → Der s at end b a e
-header_sound s at end {b} {a} {e} c k q = go (subst (Ok s at end) q (header_ok s at end))
+pub header_sound : (s : List ℕ) (at end : ℕ) {b a e : ℕ} → Bytes s → end ≤ length s → header s at end ≡ found b a e → Der s at end b a e
+header_sound s at end {b} {a} {e} c k q = go (subst (Sound s at end) q (header_ok s at end))
   where
-    go : Ok s at end (At b a e) → Der s at end b a e
+    go : Sound s at end (found b a e) → Der s at end b a e
     go (takes _ _ _ d) = d c k
 
 -- a refusal's place lies in the container
-pub header_refuses : (s : List ℕ) (at end : ℕ) {f : Fault} {p : ℕ} → at ≤ end → header s at end ≡ No f p → (at ≤ p) × (p ≤ end)
-header_refuses s at end {f} {p} l q = go (subst (Ok s at end) q (header_ok s at end))
+pub header_refuses : (s : List ℕ) (at end : ℕ) {f : Fault} {p : ℕ} → at ≤ end → header s at end ≡ refused f p → (at ≤ p) × (p ≤ end)
+header_refuses s at end {f} {p} l q = go (subst (Sound s at end) q (header_ok s at end))
   where
-    go : Ok s at end (No f p) → (at ≤ p) × (p ≤ end)
+    go : Sound s at end (refused f p) → (at ≤ p) × (p ≤ end)
     go (refuses _ h) = h l
 
 -- an element of a low tag is its first byte, the shortest length and the contents
-pub header_wrap : (s : List ℕ) (at end : ℕ) {b a e : ℕ} → Bytes s → end ≤ length s → header s at end ≡ At b a e → (b % 32 ≡ 31 → ⊥) → slice at e s ≡ wrap b (slice a e s)
+pub header_wrap : (s : List ℕ) (at end : ℕ) {b a e : ℕ} → Bytes s → end ≤ length s → header s at end ≡ found b a e → (b % 32 ≡ 31 → ⊥) → slice at e s ≡ wrap b (slice a e s)
 unfolding wrap
 header_wrap s at end {b} {a} {e} c k q low =
     let d : Der s at end b a e = header_sound s at end c k q in
@@ -274,11 +273,11 @@ header_wrap s at end {b} {a} {e} c k q low =
     sym (join at a e s (omega arith) d.order) ∙ rw (g, n, wrap) refl
 
 module _ (s : List ℕ) (at end b : ℕ) (k : end ≤ length s) where
-  fitted_is : (q n : ℕ) → q + n ≤ end → fitted at end b q n ≡ At b q (q + n)
+  fitted_is : (q n : ℕ) → q + n ≤ end → fitted at end b q n ≡ found b q (q + n)
   unfolding fitted
   fitted_is q n h = rw (le-leb n (end - q) (omega arith)) refl
 
-  length_complete : (p q n : ℕ) → q + n ≤ end → n ≤ 65535 → slice p q s ≡ shortest n → length_at s at end b p ≡ At b q (q + n)
+  length_complete : (p q n : ℕ) → q + n ≤ end → n ≤ 65535 → slice p q s ≡ shortest n → length_at s at end b p ≡ found b q (q + n)
   unfolding length_at long1 long2 long2_of
   length_complete p q n h g e =
       by_less n 128
@@ -311,7 +310,7 @@ module _ (s : List ℕ) (at end b : ℕ) (k : end ≤ length s) where
   stops j p x h e l = simp (lt-leb end p h, e, lt-ltb x 128 l)
 
   -- the number's bytes and then the length, from p on
-  high_complete : (p q v n : ℕ) → q + n ≤ end → n ≤ 65535 → 31 ≤ v → v < 2097152 → slice p q s ≡ sevens v ++ shortest n → high_tag s at end b p ≡ At b q (q + n)
+  high_complete : (p q v n : ℕ) → q + n ≤ end → n ≤ 65535 → 31 ≤ v → v < 2097152 → slice p q s ≡ sevens v ++ shortest n → high_tag s at end b p ≡ found b q (q + n)
   unfolding high_tag
   high_complete p q v n h g l m e =
       by_less v 128
@@ -354,7 +353,7 @@ module _ (s : List ℕ) (at end b : ℕ) (k : end ≤ length s) where
       )))
 
 -- and DER is accepted
-pub header_complete : (s : List ℕ) (at end : ℕ) {b a e : ℕ} → end ≤ length s → Der s at end b a e → header s at end ≡ At b a e
+pub header_complete : (s : List ℕ) (at end : ℕ) {b a e : ℕ} → end ≤ length s → Der s at end b a e → header s at end ≡ found b a e
 unfolding header
 header_complete s at end {b} {a} {e} k d =
     let n = e - a in

@@ -1,9 +1,8 @@
 -- "INTEGER and ENUMERATED are shortest"; "The integer reader should give a signed value": by sign and magnitude.
-use Rattle.std.specs.Prelude.{ℕ, zero, suc, ◌+◌, ◌-◌, ◌*◌, ◌/◌, ◌%◌, List, [], ◌∷◌, ◌++◌, Bool, true, false, ℤ, pos, negsuc, neg_ℤ, length, get_or, ltb, leb, eqb}
+use Rattle.std.specs.Prelude.{ℕ, zero, suc, ◌+◌, ◌-◌, ◌*◌, ◌/◌, ◌%◌, List, [], ◌∷◌, ◌++◌, Bool, true, false, ℤ, pos, negsuc, neg_ℤ, length, get_or, ltb, leb, eqb, Err}
 use Rattle.elements.specs.Choice.{pick, choose}
 use Rattle.elements.specs.declared.fault.Fault.TheVariants.{BadInteger}
-use Rattle.elements.specs.declared.answer.Value.{Value}
-use Rattle.elements.specs.declared.answer.Value.TheVariants.{Of, Wrong}
+use Rattle.elements.specs.Answer.{Value, of}
 
 -- the largest magnitude told: it stands for itself and for all above
 abbrev pub most : ℕ
@@ -39,7 +38,7 @@ beyond true = 1
 
 -- sign and magnitude of contents of any length
 unfoldable pub magnitude : Bool → List ℕ → Value
-magnitude n c = Of n (least (big 0 (bare n c) + beyond n) most)
+magnitude n c = of n (least (big 0 (bare n c) + beyond n) most)
 
 -- the first bit is the sign
 unfoldable pub whole : List ℕ → Value
@@ -51,9 +50,9 @@ padded x y = pick (eqb x 0) (ltb y 128) (pick (eqb x 255) (leb 128 y) false)
 
 unfoldable pub integer : List ℕ → Value
 integer c =
-    pick (eqb (length c) 0) (Wrong BadInteger)
+    pick (eqb (length c) 0) (Err BadInteger)
     (pick (eqb (length c) 1) (whole c)
-    (pick (padded (get_or c 0 0) (get_or c 1 0)) (Wrong BadInteger)
+    (pick (padded (get_or c 0 0) (get_or c 1 0)) (Err BadInteger)
     (whole c)))
 
 -- the way back: the fewest bytes of w that leave the first bit clear, complemented where the number is negative; k bounds the recursion

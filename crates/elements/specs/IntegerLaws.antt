@@ -9,11 +9,11 @@ use Rattle.elements.specs.Lists.{Bytes}
 use Rattle.elements.specs.Choice.{pick}
 use Rattle.elements.specs.ChoiceLaws.{by_pick}
 use Rattle.elements.specs.Says.{Says, wrong, says, by_test, said}
-use Rattle.elements.specs.declared.answer.Value.TheVariants.{Of}
 use Rattle.elements.specs.declared.answer.Form.TheVariants as form
 use Rattle.elements.specs.Integer.{most, least, digit, bare, big, beyond, magnitude, whole, padded, integer, spread, integer_bytes}
 use Rattle.elements.specs.SpreadLaws.{spread_small, spread_more}
 use Rattle.elements.specs.Encodings.{ToldAs, Encodes}
+use Rattle.elements.specs.Answer.{of}
 
 -- complementing twice, and what it keeps
 twice : (n : Bool) (x : ℕ) → x < 256 → digit n (digit n x) ≡ x
@@ -122,7 +122,7 @@ integer_says (x ∷ y ∷ l) b =
     (by_test (padded x y) (λ _. wrong) (λ t. of_sign_lem (x ∷ y ∷ l) b (λ n h. longer (b 0) (b 1) h (kept n x y (b 0) h (b 1) t))))
 
 -- contents that are read as an INTEGER are the shortest two's complement of the number told
-pub integer_sound : (c : List ℕ) → Bytes c → {n : Bool} {m : ℕ} → integer c ≡ Of n m → Encodes form.Integer c n m
+pub integer_sound : (c : List ℕ) → Bytes c → {n : Bool} {m : ℕ} → integer c ≡ of n m → Encodes form.Integer c n m
 integer_sound c b e = said (integer_says c b) e
 
 -- the way back
@@ -171,12 +171,12 @@ spread_is n (suc k) w l = go (ltb w 128) refl (spread_is n k (w / 256))
     go true e r = few n w (ltb-true w 128 e)
     go false e r = many n w (ltb-false w 128 e) (r (omega (arith, ltb-false w 128 e)))
 
-spread_read : (n : Bool) (w : ℕ) → integer (spread n w) ≡ Of n (least (w + beyond n) most)
+spread_read : (n : Bool) (w : ℕ) → integer (spread n w) ≡ of n (least (w + beyond n) most)
 unfolding magnitude
 spread_read n w = let r : Spread n w = spread_is n w w (omega arith) in rw (short_read r.short, r.comes)
 
 -- every shortest two's complement is read, and as its number
-pub integer_complete : (z : ℤ) {n : Bool} {m : ℕ} → ToldAs z n m → integer (integer_bytes z) ≡ Of n m
+pub integer_complete : (z : ℤ) {n : Bool} {m : ℕ} → ToldAs z n m → integer (integer_bytes z) ≡ of n m
 unfolding integer_bytes
 integer_complete (pos w) t = rw (t.0, t.1) (rw add-zero at (spread_read false w))
 integer_complete (negsuc w) t = rw (t.0, t.1) (rw add-one at (spread_read true w))

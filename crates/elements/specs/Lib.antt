@@ -2,6 +2,8 @@ pub mod Lists
 pub mod Choice
 pub mod ChoiceLaws
 pub mod Faults
+pub mod Answer
+pub mod AnswerLaws
 pub mod Refines
 pub mod Header
 pub mod Loop

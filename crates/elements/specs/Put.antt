@@ -11,7 +11,7 @@ abbrev pub le32 : ℕ → List ℕ
 le32 n = le16 (n % 65536) ++ le16 (n / 65536)
 
 -- out' is out with bs stored from o on, as far as out reaches, and r is the place past them
-pub record Put (out out' : List ℕ) (o r : ℕ) (bs : List ℕ) : Type 0 where
+pub record Put {A : Type 0} (out out' : List A) (o r : ℕ) (bs : List A) : Type 0 where
   pub at : r ≡ o + length bs
   pub to : out' ≡ sets out o bs
 

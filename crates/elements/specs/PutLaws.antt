@@ -12,7 +12,7 @@ sets_append (a ∷ vs) ws l i =
     sets_append vs ws (set l i a) (suc i) ∙ ap (λ (k : ℕ). sets (sets (set l i a) (suc i) vs) k ws) (omega arith)
 
 -- nothing is put
-pub put_none : (out : List ℕ) (o : ℕ) → Put out out o o []
+pub put_none : {A : Type 0} (out : List A) (o : ℕ) → Put out out o o []
 put_none out o = record { at = omega arith; to = refl }
 
 -- a put leaves the slice its length
@@ -27,15 +27,19 @@ put_put {a} {b} {c} {o} {p} {q} {x} {y} f g = record {
 }
 
 -- bytes for which there is no place are not stored
-sets_past : (y a : List ℕ) (o : ℕ) → length a ≤ o → sets a o y ≡ a
+sets_past : {A : Type 0} (y a : List A) (o : ℕ) → length a ≤ o → sets a o y ≡ a
 sets_past [] a o h = refl
 sets_past (b ∷ y) a o h = rw (set_out a o b h) (sets_past y a (suc o) (omega arith))
 
 pub put_over : {a b : List ℕ} {o p : ℕ} {x : List ℕ} → Put a b o p x → length a ≤ p → (y : List ℕ) → Put a b o (p + length y) (x ++ y)
 put_over {b = b} {p = p} f h y = put_put f (record { at = refl; to = sym (sets_past y b p (omega (arith, put_length f))) })
 
-pub put_past : (a : List ℕ) (o b : ℕ) → length a ≤ o → Put a a o (o + 1) (b ∷ [])
-put_past a o b h = put_over (put_none a o) h (b ∷ [])
+-- what has a place is stored
+pub put_one : {A : Type 0} (a : List A) (o : ℕ) (b : A) → Put a (set a o b) o (o + 1) (b ∷ [])
+put_one a o b = record { at = refl; to = refl }
+
+pub put_past : {A : Type 0} (a : List A) (o : ℕ) (b : A) → length a ≤ o → Put a a o (o + 1) (b ∷ [])
+put_past a o b h = record { at = refl; to = sym (sets_past (b ∷ []) a o h) }
 
 -- what is put, by an equal name
 pub put_as : {a b : List ℕ} {o p : ℕ} {x y : List ℕ} → Put a b o p x → x ≡ y → Put a b o p y

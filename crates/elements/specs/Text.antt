@@ -1,10 +1,9 @@
 -- "UTF8String is well formed": RFC 3629, section 4, its alternatives in its order.
-use Rattle.std.specs.Prelude.{ℕ, ◌+◌, ◌-◌, List, [], ◌∷◌, Bool, ◌&&◌, ltb, leb, eqb}
+use Rattle.std.specs.Prelude.{ℕ, ◌+◌, ◌-◌, List, [], ◌∷◌, Bool, ◌&&◌, ltb, leb, eqb, Err}
 use Rattle.elements.specs.Choice.{pick}
 use Rattle.elements.specs.Told.{told}
 use Rattle.elements.specs.declared.fault.Fault.TheVariants.{BadText}
-use Rattle.elements.specs.declared.answer.Value.{Value}
-use Rattle.elements.specs.declared.answer.Value.TheVariants.{Wrong}
+use Rattle.elements.specs.Answer.{Value}
 
 -- what is due inside a character: so many bytes more, the next of them from low to high
 pub record Due : Type 0 where
@@ -65,8 +64,8 @@ starts d = pick (eqb d.more 0) 1 0
 
 -- n characters were started, and d is due
 unfoldable pub text_from : Due → ℕ → List ℕ → Value
-text_from d n [] = pick (eqb d.more 0) (told n) (Wrong BadText)
-text_from d n (b ∷ l) = elim (step_of d b) [ Then t ↦ text_from t (n + starts d) l | Never ↦ Wrong BadText ]
+text_from d n [] = pick (eqb d.more 0) (told n) (Err BadText)
+text_from d n (b ∷ l) = elim (step_of d b) [ Then t ↦ text_from t (n + starts d) l | Never ↦ Err BadText ]
 
 -- UTF8-octets = *( UTF8-char ): how many characters
 unfoldable pub text : List ℕ → Value

@@ -1,5 +1,5 @@
 -- Contents that are read as text are the encoding of scalar values, and every such encoding is read.
-use Rattle.std.specs.Prelude.{ℕ, zero, suc, ◌+◌, ◌-◌, ◌*◌, ◌/◌, ◌%◌, ◌≤◌, ◌<◌, ◌≡◌, refl, List, [], ◌∷◌, ◌++◌, Bool, true, false, ◌&&◌, ◌||◌, leb, ltb, T, length}
+use Rattle.std.specs.Prelude.{ℕ, zero, suc, ◌+◌, ◌-◌, ◌*◌, ◌/◌, ◌%◌, ◌≤◌, ◌<◌, ◌≡◌, refl, List, [], ◌∷◌, ◌++◌, Bool, true, false, ◌&&◌, ◌||◌, leb, ltb, T, length, Err}
 use Rattle.std.proofs.Common.{sym, ◌∙◌, ap, leb→le, ltb→lt, le-leb, leb-true, ltb-true, ltb-false, lt-ltb, le-ltb, ne_eqb, add-zero, zero-add, arith, length-append}
 use Rattle.std.proofs.lemmas.Bool.{lt-leb}
 use Rattle.elements.specs.Choice.{pick}
@@ -9,9 +9,9 @@ use Rattle.elements.specs.Told.{told}
 use Rattle.elements.specs.declared.answer.Form.TheVariants as form
 use Rattle.elements.specs.Encodings.{Scalar, below, above, Scalars, none, more, utf8, utf8s, Encodes}
 use Rattle.elements.specs.declared.fault.Fault.TheVariants.{BadText}
-use Rattle.elements.specs.declared.answer.Value.{Value}
-use Rattle.elements.specs.declared.answer.Value.TheVariants.{Of, Wrong}
 use Rattle.elements.specs.Text.{Due, Next, Then, Never, due, Row, row, rows, find, lead_of, step_of, starts, text_from, text}
+use Rattle.elements.specs.AnswerLaws.{of_same}
+use Rattle.elements.specs.Answer.{Value, of}
 
 -- ---- the alternatives of a first byte
 -- no row begins or ends inside m to n
@@ -190,10 +190,10 @@ decoded {b} (later (later (later (later (later (later (later (here p q)))))))) (
 decoded {b} (later (later (later (later (later (later (later (later (here p q))))))))) (tail x f g (tail y i j (tail z k l end))) = of4 b x y z (v4 b x y z) (omega arith) (omega arith)
 
 -- a byte that may not stand there is not read
-refused : (d : Due) (b n : ℕ) (c : List ℕ) {s : Bool} {m : ℕ} → step_of d b ≡ Never → text_from d n (b ∷ c) ≡ Of s m → ⊥
+refused : (d : Due) (b n : ℕ) (c : List ℕ) {s : Bool} {m : ℕ} → step_of d b ≡ Never → text_from d n (b ∷ c) ≡ of s m → ⊥
 unfolding text_from
 refused d b n c {s} {m} e f =
-    let g : Wrong BadText ≡ Of s m = rw (e, text_from) at f in
+    let g : Err BadText ≡ of s m = rw (e, text_from) at f in
     let z : ◌≡◌ {A = ℕ} 0 1 = cc in
     omega arith
 
@@ -204,7 +204,7 @@ data Split (P : List ℕ → Type 0) (n : ℕ) (v : Value) : List ℕ → Type 0
 more_of : {P Q : List ℕ → Type 0} {n x : ℕ} {v : Value} {c : List ℕ} → Split P n v c → ((bs : List ℕ) → P bs → Q (x ∷ bs)) → Split Q n v (x ∷ c)
 more_of (split_at {bs} r p e) f = split_at r (f bs p) e
 
-tails : (k l h n : ℕ) {s : Bool} {m : ℕ} (c : List ℕ) → text_from (due k l h) n c ≡ Of s m → Split (Tails k l h) n (Of s m) c
+tails : (k l h n : ℕ) {s : Bool} {m : ℕ} (c : List ℕ) → text_from (due k l h) n c ≡ of s m → Split (Tails k l h) n (of s m) c
 unfolding text_from step_of starts
 tails zero l h n c e = split_at c end (sym (rests l h n c) ∙ e)
 tails (suc k) l h n [] e = let z : ◌≡◌ {A = ℕ} 0 1 = cc (ne_eqb (suc k) 0 (omega arith)) in absurd (omega arith)
@@ -214,11 +214,11 @@ tails (suc k) l h n (x ∷ c) e =
     (λ p. by_less h x (λ q. absurd (refused (due (suc k) l h) x n c (rw (a, le-ltb x l p, lt-ltb h x q)) e))
     (λ q. more_of (tails k 0x80 0xbf n c (rw (due_step k l h x p q, text_from, a, add-zero) at e)) (λ bs. tail x p q)))
 
-chars : (n : ℕ) {s : Bool} {m : ℕ} (b : ℕ) (c : List ℕ) → text_from (due 0 0 0) n (b ∷ c) ≡ Of s m → Split Char (n + 1) (Of s m) (b ∷ c)
+chars : (n : ℕ) {s : Bool} {m : ℕ} (b : ℕ) (c : List ℕ) → text_from (due 0 0 0) n (b ∷ c) ≡ of s m → Split Char (n + 1) (of s m) (b ∷ c)
 unfolding text_from step_of starts
 chars n {s} {m} b c e = go (lead_of b) refl
   where
-    go : (v : Next) → lead_of b ≡ v → Split Char (n + 1) (Of s m) (b ∷ c)
+    go : (v : Next) → lead_of b ≡ v → Split Char (n + 1) (of s m) (b ∷ c)
     go Never f = absurd (refused (due 0 0 0) b n c f e)
     go (Then t) f = more_of (tails t.more t.low t.high (n + 1) c (rw (f, text_from) at e)) (λ bs. char f)
 
@@ -237,19 +237,20 @@ spelt_on {n} (split_at r (char {b} {k} {l} {h} {bs} e t) w) on =
     let i : n + suc (length q.scalars) ≡ n + 1 + length q.scalars = omega arith in
     record { scalars = d.u ∷ q.scalars; each = more d.scalar q.each; bytes = rw (← d.is, ← q.bytes); says = rw i q.says }
 
-spelt_from : (n : ℕ) {s : Bool} {m : ℕ} (c : List ℕ) → text_from (due 0 0 0) n c ≡ Of s m → ((r : List ℕ) → length r < length c → text_from (due 0 0 0) (n + 1) r ≡ Of s m → Spelt (n + 1) (Of s m) r) → Spelt n (Of s m) c
+spelt_from : (n : ℕ) {s : Bool} {m : ℕ} (c : List ℕ) → text_from (due 0 0 0) n c ≡ of s m → ((r : List ℕ) → length r < length c → text_from (due 0 0 0) (n + 1) r ≡ of s m → Spelt (n + 1) (of s m) r) → Spelt n (of s m) c
 unfolding text_from utf8s
 spelt_from n [] e on = record { scalars = []; each = none; bytes = refl; says = rw add-zero e }
 spelt_from n (x ∷ c) e on = spelt_on (chars n x c e) on
 
-spelt : (k n : ℕ) {s : Bool} {m : ℕ} (c : List ℕ) → length c < k → text_from (due 0 0 0) n c ≡ Of s m → Spelt n (Of s m) c
+spelt : (k n : ℕ) {s : Bool} {m : ℕ} (c : List ℕ) → length c < k → text_from (due 0 0 0) n c ≡ of s m → Spelt n (of s m) c
 spelt zero n c h e = absurd (omega arith)
 spelt (suc k) n c h e = spelt_from n c e (λ r l f. spelt k (n + 1) r (omega arith) f)
 
 -- contents that are read as text are the encoding of scalar values, and so many
-pub text_sound : (c : List ℕ) {n : Bool} {m : ℕ} → text c ≡ Of n m → Encodes form.Text c n m
+pub text_sound : (c : List ℕ) {n : Bool} {m : ℕ} → text c ≡ of n m → Encodes form.Text c n m
 unfolding text told
 text_sound c {n} {m} e =
     let q = spelt (suc (length c)) 0 c (omega arith) e in
-    let f : Of false (least (length q.scalars) most) ≡ Of n m = rw zero-add at q.says in
-    record { worth = q.scalars; proper = q.each; bytes = q.bytes; told = (cc, cc) }
+    let f : of false (least (length q.scalars) most) ≡ of n m = rw zero-add at q.says in
+    let g = of_same f in
+    record { worth = q.scalars; proper = q.each; bytes = q.bytes; told = (sym g.0, sym g.1) }

@@ -1,9 +1,8 @@
 -- "Times are YYYYMMDDhhmmssZ, Gregorian, hours to 23, minutes and seconds to 59."
-use Rattle.std.specs.Prelude.{ℕ, zero, suc, ◌+◌, ◌-◌, ◌*◌, ◌%◌, List, [], ◌∷◌, Bool, true, false, ◌&&◌, ◌||◌, length, get_or, ltb, leb, eqb}
+use Rattle.std.specs.Prelude.{ℕ, zero, suc, ◌+◌, ◌-◌, ◌*◌, ◌%◌, List, [], ◌∷◌, Bool, true, false, ◌&&◌, ◌||◌, length, get_or, ltb, leb, eqb, Err}
 use Rattle.elements.specs.Choice.{pick}
 use Rattle.elements.specs.declared.fault.Fault.TheVariants.{BadTime}
-use Rattle.elements.specs.declared.answer.Value.{Value}
-use Rattle.elements.specs.declared.answer.Value.TheVariants.{Of, Wrong}
+use Rattle.elements.specs.Answer.{Value, of}
 
 abbrev pub is_digit : ℕ → Bool
 is_digit x = leb 48 x && leb x 57
@@ -47,4 +46,4 @@ stated c =
     false) false) false) false
 
 unfoldable pub time : List ℕ → Value
-time c = pick (stated c) (Of false 0) (Wrong BadTime)
+time c = pick (stated c) (of false 0) (Err BadTime)

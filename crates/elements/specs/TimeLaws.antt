@@ -1,5 +1,5 @@
 -- A time that is read is exactly YYYYMMDDhhmmssZ of a day of the calendar, and every such time is read.
-use Rattle.std.specs.Prelude.{ℕ, zero, suc, ◌+◌, ◌-◌, ◌*◌, ◌/◌, ◌%◌, ◌≤◌, ◌<◌, ◌≡◌, refl, List, [], ◌∷◌, ◌++◌, Bool, true, false, length, drop, leb, ltb, eqb}
+use Rattle.std.specs.Prelude.{ℕ, zero, suc, ◌+◌, ◌-◌, ◌*◌, ◌/◌, ◌%◌, ◌≤◌, ◌<◌, ◌≡◌, refl, List, [], ◌∷◌, ◌++◌, Bool, true, false, length, drop, leb, ltb, eqb, Err}
 use Rattle.std.proofs.Common.{sym, ◌∙◌, ap, drop_of_length-le, drop-cons, lit≤, le-leb, ne_eqb, le-ltb, leb-true, leb-false, ltb-false, eqb-true}
 use Rattle.std.proofs.Math.ListN.{get_or}
 use Rattle.std.proofs.lemmas.Bool.{lt-leb, eqb-false}
@@ -9,7 +9,8 @@ use Rattle.elements.specs.ChoiceLaws.{both_true}
 use Rattle.elements.specs.Time.{is_digit, digits, two, days_of, dated, clocked, stated, time}
 use Rattle.elements.specs.Encodings.{pair, Moment}
 use Rattle.elements.specs.declared.fault.Fault.TheVariants.{BadTime}
-use Rattle.elements.specs.declared.answer.Value.TheVariants.{Of, Wrong}
+use Rattle.elements.specs.AnswerLaws.{of_same}
+use Rattle.elements.specs.Answer.{of}
 
 -- there is no month after the twelfth
 no_month : (y m : ℕ) → 12 < m → days_of y m ≡ 0
@@ -47,7 +48,7 @@ month_fits y m d h l = go (leb m 12) refl
     go false e = absurd (omega (arith, no_month y m (leb-false m 12 e)))
 
 -- every time of a day of the calendar is read
-pub time_complete : {c : List ℕ} → Moment c → time c ≡ Of false 0
+pub time_complete : {c : List ℕ} → Moment c → time c ≡ of false 0
 unfolding time dated clocked
 time_complete h =
     let y = h.year in
@@ -155,10 +156,10 @@ moment c e =
     }
 
 -- a time that is read is exactly YYYYMMDDhhmmssZ of a day of the calendar
-pub time_sound : (c : List ℕ) {n : Bool} {m : ℕ} → time c ≡ Of n m → (n ≡ false) × (m ≡ 0) × Moment c
+pub time_sound : (c : List ℕ) {n : Bool} {m : ℕ} → time c ≡ of n m → (n ≡ false) × (m ≡ 0) × Moment c
 unfolding time
 time_sound c {n} {m} e = go (stated c) refl e
   where
-    go : (t : Bool) → stated c ≡ t → pick t (Of false 0) (Wrong BadTime) ≡ Of n m → (n ≡ false) × (m ≡ 0) × Moment c
-    go true f g = (cc, cc, moment c f)
+    go : (t : Bool) → stated c ≡ t → pick t (of false 0) (Err BadTime) ≡ of n m → (n ≡ false) × (m ≡ 0) × Moment c
+    go true f g = let z = of_same g in (sym z.0, sym z.1, moment c f)
     go false f g = let z : ◌≡◌ {A = ℕ} 0 1 = cc in absurd (omega arith)

@@ -1,5 +1,5 @@
 -- The grammar of RFC 3629 and the reading of texts, one whole character at a time, agree.
-use Rattle.std.specs.Prelude.{ℕ, zero, suc, ◌+◌, ◌≤◌, ◌<◌, ◌≡◌, Bool, true, false, ◌&&◌, ◌||◌, List, [], ◌∷◌, length, get_or, drop, ltb, leb, eqb, T}
+use Rattle.std.specs.Prelude.{ℕ, zero, suc, ◌+◌, ◌≤◌, ◌<◌, ◌≡◌, Bool, true, false, ◌&&◌, ◌||◌, List, [], ◌∷◌, length, get_or, drop, ltb, leb, eqb, T, Err}
 use Rattle.std.proofs.Math.Path.{refl}
 use Rattle.std.proofs.Common.{ap, ◌∙◌, add-zero, arith, drop_of_length-le, drop-cons, lt-ltb, le-ltb, ltb-true, ne_eqb, le-leb}
 use Rattle.std.proofs.Math.Numerals.{add-one}
@@ -7,7 +7,6 @@ use Rattle.std.proofs.lemmas.Bool.{lt-leb}
 use Rattle.elements.specs.Choice.{pick}
 use Rattle.elements.specs.ChoiceLaws.{by_less, both_true, all_both}
 use Rattle.elements.specs.declared.fault.Fault.TheVariants.{BadText}
-use Rattle.elements.specs.declared.answer.Value.TheVariants.{Wrong}
 use Rattle.elements.specs.Text.{Due, Then, Never, Row, row, due, from, rows, find, lead_of, step_of, starts, text_from}
 use Rattle.elements.specs.TextLaws.{level, lower, upper, leads, rests, due_step}
 use Rattle.elements.specs.Utf8.{byte, utf8_tail, two, three, four, utf8_1, utf8_2, utf8_3, utf8_4, utf8_char}
@@ -29,7 +28,7 @@ follow_fits (suc k) l h c i b e =
 
 -- where they are due, they are read, or it is no text
 abbrev Reads : ℕ → ℕ → ℕ → ℕ → List ℕ → ℕ → Type 0
-Reads k l h n c i = text_from (due k l h) n (drop i c) ≡ pick (follow k l h c i) (text_from (due 0 0 0) n (drop (i + k) c)) (Wrong BadText)
+Reads k l h n c i = text_from (due k l h) n (drop i c) ≡ pick (follow k l h c i) (text_from (due 0 0 0) n (drop (i + k) c)) (Err BadText)
 
 follow_more : (k l h n : ℕ) (c : List ℕ) (i : ℕ) → Reads k 0x80 0xbf n c (i + 1) → Reads (suc k) l h n c i
 unfolding text_from step_of starts
@@ -95,7 +94,7 @@ module _ (c : List ℕ) (i m n : ℕ) (inside : i < length c) (p : m ≤ get_or 
 
 -- a character stands at i, and is read whole; or none does, and it is no text
 pub data Turn (c : List ℕ) (i n : ℕ) : Type 0 where
-  no_char : utf8_char c i ≡ 0 → text_from (due 0 0 0) n (drop i c) ≡ Wrong BadText → Turn c i n
+  no_char : utf8_char c i ≡ 0 → text_from (due 0 0 0) n (drop i c) ≡ Err BadText → Turn c i n
   one_char : (k : ℕ) → utf8_char c i ≡ suc k → i + suc k ≤ length c → text_from (due 0 0 0) n (drop i c) ≡ text_from (due 0 0 0) (n + 1) (drop (i + suc k) c) → Turn c i n
 
 module _ (c : List ℕ) (i n : ℕ) (inside : i < length c) where
@@ -113,7 +112,7 @@ module _ (c : List ℕ) (i n : ℕ) (inside : i < length c) where
       w : i + suc k ≡ i + 1 + k
       w = omega arith
 
-      read : text_from (due 0 0 0) n (drop i c) ≡ pick (follow k l h c (i + 1)) (text_from (due 0 0 0) (n + 1) (drop (i + suc k) c)) (Wrong BadText)
+      read : text_from (due 0 0 0) n (drop i c) ≡ pick (follow k l h c (i + 1)) (text_from (due 0 0 0) (n + 1) (drop (i + suc k) c)) (Err BadText)
       read = lead_then (due k l h) e ∙ rw w (follow_read k l h (n + 1) c (i + 1))
 
       go : (t : Bool) → follow k l h c (i + 1) ≡ t → Turn c i n

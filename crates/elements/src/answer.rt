@@ -1,22 +1,15 @@
 use crate::fault::Fault;
 
-// What stands at a place: an element, or a refusal and its place.
-#[derive(Clone, Copy)]
-pub enum Head {
-    // first tag byte, where the contents start and end
-    At(u8, usize, usize),
-    No(Fault, usize),
-}
+// A refusal: why, and where.
+#[derive(Clone, Copy, Debug, PartialEq, Eq)]
+pub struct Refusal(pub Fault, pub usize);
 
-// A run of sealed elements: where it ends, or a refusal and its place.
-#[derive(Clone, Copy)]
-pub enum Run {
-    Ends(usize),
-    Refused(Fault, usize),
-}
+// An element: its first tag byte, where its contents start and end.
+#[derive(Clone, Copy, Debug, PartialEq, Eq)]
+pub struct Header(pub u8, pub usize, pub usize);
 
 // The forms that contents are read in; ENUMERATED is read as INTEGER.
-#[derive(Clone, Copy)]
+#[derive(Clone, Copy, Debug, PartialEq, Eq)]
 pub enum Form {
     Boolean,
     Integer,
@@ -27,18 +20,12 @@ pub enum Form {
     Octets,
 }
 
-// What contents say: a number, by sign (true: negative) and magnitude; or what is wrong with them.
+// What contents say: a number, by sign (true: negative) and magnitude.
 // BOOLEAN 0 or 1, a flag word, a text's characters, the bytes of octets; NULL and a time say 0.
 // A magnitude that 32 bits do not hold is told as 4,294,967,295, which is out of every bound.
-#[derive(Clone, Copy)]
-pub enum Value {
-    Of(bool, u32),
-    Wrong(Fault),
-}
+#[derive(Clone, Copy, Debug, PartialEq, Eq)]
+pub struct Number(pub bool, pub u32);
 
-// An element that was read: its value and the next place, or a refusal and its place.
-#[derive(Clone, Copy)]
-pub enum Read {
-    Took(bool, u32, usize),
-    Refused(Fault, usize),
-}
+// An element that was read: its value and the next place.
+#[derive(Clone, Copy, Debug, PartialEq, Eq)]
+pub struct Read(pub Number, pub usize);

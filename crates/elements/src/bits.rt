@@ -2,9 +2,9 @@ ghost use Rattle.std.specs.Prelude.{◌≡◌, ◌+◌, ◌-◌, ◌^◌, ◌<�
 ghost use Rattle.elements.specs.Bits.{reversed, weigh, bits_of, bits, width, flag_run, flag_bytes};
 ghost use Rattle.elements.specs.Put.{Put};
 
-use crate::answer::Value;
+use crate::answer::Number;
 use crate::fault::Fault;
-use crate::put::put_byte;
+use crate::store::put;
 
 // A byte's bits in the other order.
 fn reversed(b: u8) -> u8
@@ -26,57 +26,46 @@ fn weigh(c: &[u8]) -> u32
     ensures { result ≡ weigh (drop 1 c.now) }
 {
     let mut v: u32 = 0;
-    let mut i = c.len();
-    while 1 < i {
-        i -= 1;
-        v = v * 256 + reversed(c[i]) as u32;
+    for i in (1..c.len()).rev() {
+        v = v * 256 + u32::from(reversed(c[i]));
     }
     v
 }
 
-const POWERS: [u8; 8] = [1, 2, 4, 8, 16, 32, 64, 128];
-
-fn power(u: u8) -> u8
-    requires { u < 8 }
-    ensures { (result ≡ 2 ^ u) × (0 < result) }
-{
-    POWERS[u as usize]
-}
-
 // The bits, of which the last byte leaves u unused.
-fn bits_of(c: &[u8], u: u8, last: u8) -> Value
+fn bits_of(c: &[u8], u: u8, last: u8) -> Result<Number, Fault>
     requires { (u < 8) × (1 < length c.now) }
     ensures { result ≡ bits_of c.now u last }
 {
-    let w = power(u);
+    let w = 1u8 << u;
     if last % w == 0 {
         if last / w % 2 == 1 {
             if c.len() <= 5 {
-                return Value::Of(false, weigh(c));
+                return Ok(Number(false, weigh(c)));
             }
-            return Value::Wrong(Fault::ManyBits);
+            return Err(Fault::ManyBits);
         }
-        return Value::Wrong(Fault::TrailingBits);
+        return Err(Fault::TrailingBits);
     }
-    Value::Wrong(Fault::BadBits)
+    Err(Fault::BadBits)
 }
 
 // Named bits from the contents of a BIT STRING.
-pub fn bits(c: &[u8]) -> Value
+pub fn bits(c: &[u8]) -> Result<Number, Fault>
     ensures { result ≡ bits c.now }
 {
     if c.len() == 0 {
-        return Value::Wrong(Fault::BadBits);
+        return Err(Fault::BadBits);
     }
     let u = c[0];
     if 7 < u {
-        return Value::Wrong(Fault::BadBits);
+        return Err(Fault::BadBits);
     }
     if c.len() == 1 {
         if u == 0 {
-            return Value::Of(false, 0);
+            return Ok(Number(false, 0));
         }
-        return Value::Wrong(Fault::BadBits);
+        return Err(Fault::BadBits);
     }
     bits_of(c, u, c[c.len() - 1])
 }
@@ -87,12 +76,10 @@ fn put_run(out: &mut [u8], o: usize, k: u32, w: u32) -> usize
     ensures { (result ≡ o + k) × Put out.old out.new o result (flag_run k w) }
 {
     let mut p = o;
-    let mut left = k;
     let mut v = w;
-    while 0 < left {
-        p = put_byte(out, p, reversed((v % 256) as u8));
+    for _turn in 0..k {
+        p = put(out, p, reversed((v % 256) as u8));
         v /= 256;
-        left -= 1;
     }
     p
 }
@@ -111,6 +98,6 @@ pub fn put_flags(out: &mut [u8], o: usize, w: u32) -> usize
 {
     let n = width(w);
     let k = (n + 7) / 8;
-    let p = put_byte(out, o, (k * 8 - n) as u8);
+    let p = put(out, o, (k * 8 - n) as u8);
     put_run(out, p, k, w)
 }

@@ -1,8 +1,10 @@
 ghost use Rattle.std.specs.Prelude.{◌≡◌};
 ghost use Rattle.elements.specs.Faults.{number_of};
 
+use std::fmt;
+
 // Why an input is refused: a name for each reason that documents 01 and 02 give, in the order of their numbers.
-#[derive(Clone, Copy)]
+#[derive(Clone, Copy, Debug, PartialEq, Eq)]
 pub enum Fault {
     // 1: the dump is over 32,768 bytes
     DumpSize,
@@ -72,50 +74,64 @@ pub enum Fault {
 }
 
 // The number that the documents give a fault.
+impl From<Fault> for u32 {
+    ghost from_gives = { λ f n. n ≡ number_of f };
+
+    fn from(f: Fault) -> u32 {
+        match f {
+            Fault::DumpSize => 1,
+            Fault::RecordBroken => 2,
+            Fault::RecordMissing => 2,
+            Fault::RecordKind => 2,
+            Fault::FileLength => 2,
+            Fault::PathLength => 2,
+            Fault::RecordOver => 2,
+            Fault::BadTag => 3,
+            Fault::CutTag => 3,
+            Fault::NotDue => 3,
+            Fault::OneMore => 3,
+            Fault::BadLength => 4,
+            Fault::CutLength => 4,
+            Fault::LongLength => 4,
+            Fault::Missing => 5,
+            Fault::BadBoolean => 61,
+            Fault::BadInteger => 62,
+            Fault::BadBits => 63,
+            Fault::TrailingBits => 64,
+            Fault::BadText => 65,
+            Fault::BadTime => 66,
+            Fault::BadNull => 67,
+            Fault::DefaultWritten => 68,
+            Fault::OutOfRange => 7,
+            Fault::BadSize => 7,
+            Fault::ManyBits => 7,
+            Fault::ManyConditions => 7,
+            Fault::PathPair => 8,
+            Fault::PasswordFlags => 8,
+            Fault::TooDeep => 9,
+            Fault::ManyObjects => 10,
+            Fault::FillDiffers => 11,
+            Fault::PathTwice => 12,
+            Fault::FileDiffers => 12,
+            Fault::FileMissing => 12,
+            Fault::FileExtra => 12,
+            Fault::AuthIdTwice => 13,
+            Fault::NoRoom => 14,
+            Fault::NoDump => 15,
+            Fault::NotThere => 16,
+            Fault::SecondObject => 17,
+        }
+    }
+}
+
 pub fn number_of(f: Fault) -> u32
     ensures { result ≡ number_of f }
 {
-    match f {
-        Fault::DumpSize => 1,
-        Fault::RecordBroken => 2,
-        Fault::RecordMissing => 2,
-        Fault::RecordKind => 2,
-        Fault::FileLength => 2,
-        Fault::PathLength => 2,
-        Fault::RecordOver => 2,
-        Fault::BadTag => 3,
-        Fault::CutTag => 3,
-        Fault::NotDue => 3,
-        Fault::OneMore => 3,
-        Fault::BadLength => 4,
-        Fault::CutLength => 4,
-        Fault::LongLength => 4,
-        Fault::Missing => 5,
-        Fault::BadBoolean => 61,
-        Fault::BadInteger => 62,
-        Fault::BadBits => 63,
-        Fault::TrailingBits => 64,
-        Fault::BadText => 65,
-        Fault::BadTime => 66,
-        Fault::BadNull => 67,
-        Fault::DefaultWritten => 68,
-        Fault::OutOfRange => 7,
-        Fault::BadSize => 7,
-        Fault::ManyBits => 7,
-        Fault::ManyConditions => 7,
-        Fault::PathPair => 8,
-        Fault::PasswordFlags => 8,
-        Fault::TooDeep => 9,
-        Fault::ManyObjects => 10,
-        Fault::FillDiffers => 11,
-        Fault::PathTwice => 12,
-        Fault::FileDiffers => 12,
-        Fault::FileMissing => 12,
-        Fault::FileExtra => 12,
-        Fault::AuthIdTwice => 13,
-        Fault::NoRoom => 14,
-        Fault::NoDump => 15,
-        Fault::NotThere => 16,
-        Fault::SecondObject => 17,
+    u32::from(f)
+}
+
+impl fmt::Display for Fault {
+    fn fmt<W: fmt::Write>(&self, f: &mut fmt::Formatter<W>) -> fmt::Result {
+        fmt::Display::fmt(&u32::from(*self), f)
     }
 }

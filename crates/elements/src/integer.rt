@@ -2,9 +2,9 @@ ghost use Rattle.std.specs.Prelude.{◌≡◌, ◌+◌, ◌^◌, ◌<◌, ◌≤
 ghost use Rattle.elements.specs.Integer.{signed, digit, padded, magnitude, whole, integer, spread, integer_bytes};
 ghost use Rattle.elements.specs.Put.{Put};
 
-use crate::answer::Value;
+use crate::answer::Number;
 use crate::fault::Fault;
-use crate::put::put_byte;
+use crate::store::put;
 
 // A byte of a magnitude: as it stands, or complemented where the number is negative.
 fn digit(negative: bool, x: u8) -> u8
@@ -30,26 +30,24 @@ fn padded(x: u8, y: u8) -> bool
 }
 
 // Sign and magnitude, of contents of any length.
-fn magnitude(c: &[u8], negative: bool) -> Value
+fn magnitude(c: &[u8], negative: bool) -> Result<Number, Fault>
     ensures { result ≡ magnitude negative c.now }
 {
     let mut v: u64 = 0;
-    let mut i = 0;
-    while i < c.len() {
-        v = v * 256 + digit(negative, c[i]) as u64;
+    for x in c {
+        v = v * 256 + u64::from(digit(negative, *x));
         if 4294967295 <= v {
-            return Value::Of(negative, 4294967295);
+            return Ok(Number(negative, 4294967295));
         }
-        i += 1;
     }
     if negative {
-        return Value::Of(true, v as u32 + 1);
+        return Ok(Number(true, v as u32 + 1));
     }
-    Value::Of(false, v as u32)
+    Ok(Number(false, v as u32))
 }
 
 // The number, its sign told by the first bit.
-fn whole(c: &[u8]) -> Value
+fn whole(c: &[u8]) -> Result<Number, Fault>
     requires { 0 < length c.now }
     ensures { result ≡ whole c.now }
 {
@@ -60,17 +58,17 @@ fn whole(c: &[u8]) -> Value
 }
 
 // INTEGER or ENUMERATED from its contents.
-pub fn integer(c: &[u8]) -> Value
+pub fn integer(c: &[u8]) -> Result<Number, Fault>
     ensures { result ≡ integer c.now }
 {
     if c.len() == 0 {
-        return Value::Wrong(Fault::BadInteger);
+        return Err(Fault::BadInteger);
     }
     if c.len() == 1 {
         return whole(c);
     }
     if padded(c[0], c[1]) {
-        return Value::Wrong(Fault::BadInteger);
+        return Err(Fault::BadInteger);
     }
     whole(c)
 }
@@ -81,10 +79,10 @@ fn put_spread(out: &mut [u8], o: usize, negative: bool, w: u32) -> usize
     ensures { Put out.old out.new o result (spread negative w) }
 {
     if w < 128 {
-        return put_byte(out, o, digit(negative, w as u8));
+        return put(out, o, digit(negative, w as u8));
     }
     let p = put_spread(out, o, negative, w / 256);
-    put_byte(out, p, digit(negative, (w % 256) as u8))
+    put(out, p, digit(negative, (w % 256) as u8))
 }
 
 // The contents of an INTEGER from its sign and magnitude.

@@ -2,7 +2,7 @@ ghost use Rattle.std.specs.Prelude.{◌+◌, ◌^◌, ◌<◌, ◌≤◌, ◌∷
 ghost use Rattle.elements.specs.Put.{Put};
 ghost use Rattle.elements.specs.Length.{shortest};
 
-use crate::put::put_byte;
+use crate::store::put;
 
 // The shortest length field of n; behind 82, of its two low bytes.
 pub fn put_length(out: &mut [u8], o: usize, n: usize) -> usize
@@ -10,15 +10,15 @@ pub fn put_length(out: &mut [u8], o: usize, n: usize) -> usize
     ensures { (result ≤ o + 3) × Put out.old out.new o result (shortest n) }
 {
     if n < 128 {
-        return put_byte(out, o, n as u8);
+        return put(out, o, n as u8);
     }
     if n < 256 {
-        let p = put_byte(out, o, 129);
-        return put_byte(out, p, n as u8);
+        let p = put(out, o, 129);
+        return put(out, p, n as u8);
     }
-    let p = put_byte(out, o, 130);
-    let q = put_byte(out, p, (n / 256 % 256) as u8);
-    put_byte(out, q, (n % 256) as u8)
+    let p = put(out, o, 130);
+    let q = put(out, p, (n / 256 % 256) as u8);
+    put(out, q, (n % 256) as u8)
 }
 
 // The header of a low tag and n bytes of contents.
@@ -26,6 +26,6 @@ pub fn put_header(out: &mut [u8], o: usize, tag: u8, n: usize) -> usize
     requires { o < 2 ^ 61 }
     ensures { (result ≤ o + 4) × Put out.old out.new o result (tag ∷ shortest n) }
 {
-    let p = put_byte(out, o, tag);
+    let p = put(out, o, tag);
     put_length(out, p, n)
 }

@@ -8,15 +8,15 @@ mod fault;
 mod headers;
 mod integer;
 mod length;
-mod put;
 mod record;
 mod seals;
+mod store;
 mod text;
 mod time;
 mod value;
 
 // Faults and answers.
-pub use answer::{Form, Head, Read, Run};
+pub use answer::{Form, Header, Number, Read, Refusal};
 pub use fault::{Fault, number_of};
 // Elements.
 pub use headers::header;
@@ -27,6 +27,6 @@ pub use bits::put_flags;
 pub use boolean::put_boolean;
 pub use integer::put_integer;
 pub use length::{put_header, put_length};
-pub use put::{put_byte, put_le16, put_part};
+pub use store::{put, put_le16, put_part};
 // Records of the book.
 pub use record::{put_number, put_record};

@@ -3,7 +3,7 @@ ghost use Rattle.std.proofs.Math.Seq.{slice};
 ghost use Rattle.elements.specs.Put.{Put, le32};
 ghost use Rattle.elements.specs.Record.{record_bytes};
 
-use crate::put::{put_le16, put_le32, put_part};
+use crate::store::{put_le16, put_le32, put_part};
 
 // A record of the book, its payload the bytes of s from a to e.
 pub fn put_record(out: &mut [u8], o: usize, kind: u16, s: &[u8], a: usize, e: usize) -> usize

@@ -2,14 +2,14 @@ ghost use Rattle.std.specs.Prelude.{◌≡◌, ◌<◌, length};
 ghost use Rattle.elements.specs.Text.{text};
 ghost use Rattle.elements.specs.Utf8.{byte, utf8_tail, utf8_1, utf8_2, utf8_3, utf8_4, utf8_char};
 
-use crate::answer::Value;
+use crate::answer::Number;
 use crate::fault::Fault;
 use crate::value::told;
 
 // RFC 3629, section 4, in its order and by its names: each function is told where in c its bytes would stand.
 
 // UTF8-octets = *( UTF8-char ): how many characters contents are.
-fn utf8_octets(c: &[u8]) -> Value
+fn utf8_octets(c: &[u8]) -> Result<Number, Fault>
     ensures { result ≡ text c.now }
 {
     let mut n: u64 = 0;
@@ -17,7 +17,7 @@ fn utf8_octets(c: &[u8]) -> Value
     while i < c.len() {
         let k = utf8_char(c, i);
         if k == 0 {
-            return Value::Wrong(Fault::BadText);
+            return Err(Fault::BadText);
         }
         n += 1;
         i += k;
@@ -118,7 +118,7 @@ fn byte(c: &[u8], i: usize, low: u8, high: u8) -> bool
 }
 
 // UTF8String: how many characters its contents are.
-pub fn text(c: &[u8]) -> Value
+pub fn text(c: &[u8]) -> Result<Number, Fault>
     ensures { result ≡ text c.now }
 {
     utf8_octets(c)

@@ -1,7 +1,7 @@
 ghost use Rattle.std.specs.Prelude.{◌≡◌, ◌+◌, ◌-◌, ◌<◌, ◌≤◌, length};
 ghost use Rattle.elements.specs.Time.{is_digit, digits, two, leap, days_of, dated, clocked, stated, time};
 
-use crate::answer::Value;
+use crate::answer::Number;
 use crate::fault::Fault;
 
 fn is_digit(x: u8) -> bool
@@ -18,12 +18,10 @@ fn digits(c: &[u8], n: usize) -> bool
     requires { n ≤ length c.now }
     ensures { result ≡ digits n c.now }
 {
-    let mut i = 0;
-    while i < n {
+    for i in 0..n {
         if !is_digit(c[i]) {
             return false;
         }
-        i += 1;
     }
     true
 }
@@ -119,11 +117,11 @@ fn stated(c: &[u8]) -> bool
 }
 
 // A time from its contents.
-pub fn time(c: &[u8]) -> Value
+pub fn time(c: &[u8]) -> Result<Number, Fault>
     ensures { result ≡ time c.now }
 {
     if stated(c) {
-        return Value::Of(false, 0);
+        return Ok(Number(false, 0));
     }
-    Value::Wrong(Fault::BadTime)
+    Err(Fault::BadTime)
 }

@@ -3,7 +3,7 @@ ghost use Rattle.std.proofs.Math.Seq.{slice};
 ghost use Rattle.elements.specs.Told.{told};
 ghost use Rattle.elements.specs.Values.{null, value, placed, element};
 
-use crate::answer::{Form, Head, Read, Value};
+use crate::answer::{Form, Header, Number, Read, Refusal};
 use crate::bits::bits;
 use crate::boolean::boolean;
 use crate::fault::Fault;
@@ -13,26 +13,26 @@ use crate::text::text;
 use crate::time::time;
 
 // A count as a value.
-pub fn told(n: u64) -> Value
+pub fn told(n: u64) -> Result<Number, Fault>
     ensures { result ≡ told n }
 {
     if n < 4294967295 {
-        return Value::Of(false, n as u32);
+        return Ok(Number(false, n as u32));
     }
-    Value::Of(false, 4294967295)
+    Ok(Number(false, 4294967295))
 }
 
-fn null(c: &[u8]) -> Value
+fn null(c: &[u8]) -> Result<Number, Fault>
     ensures { result ≡ null c.now }
 {
     if c.len() == 0 {
-        return Value::Of(false, 0);
+        return Ok(Number(false, 0));
     }
-    Value::Wrong(Fault::BadNull)
+    Err(Fault::BadNull)
 }
 
 // What contents say in a form.
-pub fn value(f: Form, c: &[u8]) -> Value
+pub fn value(f: Form, c: &[u8]) -> Result<Number, Fault>
     ensures { result ≡ value f c.now }
 {
     match f {
@@ -47,28 +47,24 @@ pub fn value(f: Form, c: &[u8]) -> Value
 }
 
 // The value of the element at `at`, whose contents are from a to e.
-pub fn value_at(f: Form, s: &[u8], at: usize, a: usize, e: usize) -> Read
+pub fn value_at(f: Form, s: &[u8], at: usize, a: usize, e: usize) -> Result<Read, Refusal>
     requires { (a ≤ e) × (e ≤ length s.now) }
     ensures { result ≡ placed at e (value f (slice a e s.now)) }
 {
     match value(f, &s[a..e]) {
-        Value::Of(n, m) => Read::Took(n, m, e),
-        Value::Wrong(x) => Read::Refused(x, at),
+        Ok(n) => Ok(Read(n, e)),
+        Err(x) => Err(Refusal(x, at)),
     }
 }
 
 // One element of a tag and a form, at `at` in a container that ends at `end`.
-pub fn element(f: Form, tag: u8, s: &[u8], at: usize, end: usize) -> Read
+pub fn element(f: Form, tag: u8, s: &[u8], at: usize, end: usize) -> Result<Read, Refusal>
     requires { end ≤ length s.now }
     ensures { result ≡ element f tag s.now at end }
 {
-    match header(s, at, end) {
-        Head::No(x, p) => Read::Refused(x, p),
-        Head::At(b, a, e) => {
-            if b == tag {
-                return value_at(f, s, at, a, e);
-            }
-            Read::Refused(Fault::NotDue, at)
-        }
+    let Header(b, a, e) = header(s, at, end)?;
+    if b == tag {
+        return value_at(f, s, at, a, e);
     }
+    Err(Refusal(Fault::NotDue, at))
 }

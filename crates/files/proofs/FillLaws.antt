@@ -7,24 +7,24 @@ use native.Mathlib.Omega.{arith}
 use lib.ListN.{get_or}
 use lib.Dec.{eqb}
 use borrow.Author.Tests.{lt-ltb, le-ltb, eq-eqb, ne_eqb}
-use Rattle.elements.specs.declared.fault.Fault.{Fault}
 use Rattle.elements.specs.declared.fault.Fault.TheVariants.{FillDiffers, Missing, OneMore}
-use Rattle.elements.specs.declared.answer.Head.{Head}
-use Rattle.elements.specs.declared.answer.Head.TheVariants.{At, No}
 use Rattle.elements.specs.Header.{header}
 use Rattle.elements.specs.Put.{Put, le16}
 use Rattle.elements.specs.Record.{record_bytes}
-use Rattle.objects.specs.declared.part.Part.{Part}
-use Rattle.objects.specs.declared.part.Part.TheVariants.{Took, Fails}
 use Rattle.rules.specs.declared.table.Need.TheVariants.{Required}
 use Rattle.rules.specs.Reading.{◌then◌}
 use Rattle.rules.specs.Parts.{component, components, rest, kept_out}
 use Rattle.rules.specs.Tables.{cia_rows}
 use Rattle.rules.specs.Files.{to_fill, filled, fill, cia_body, cia_element, cia_fill, cia}
-use Rattle.objects.specs.Did.{Did, fell, Inside}
+use Rattle.objects.specs.Did.{Did, fell, Inside, Part, came}
 use Rattle.files.specs.Filing.{Filled}
 use Rattle.objects.specs.DidLaws.{did_none, did_one, did_then, did_fails}
 use Rattle.rules.specs.Layouts as layouts
+use Rattle.elements.specs.Answer.{refused}
+use Rattle.objects.specs.declared.part.Cursor.{Cursor}
+use Rattle.elements.specs.declared.answer.Refusal.{Refusal}
+use Rattle.elements.specs.declared.answer.Header.{Header}
+use Rattle.std.specs.Prelude.{Ok, Err}
 
 module _ (s : List ℕ) (end at : ℕ) where
   pub on_end : end ≤ at → false ≡ to_fill s end at
@@ -65,7 +65,7 @@ module _ {s : List ℕ} {b end at i : ℕ} (h : Same s b end at i) where
         let k : t.0 ≡ end - (i + 1) = omega (arith, t.1) in
         record { low = omega (arith, h.low); high = omega arith; rest = h.rest ∙ rw (t.1, eq-eqb (get_or s i 0) b n, k) refl }
 
-  pub same_all : end ≤ i → Filled s b end at i
+  pub same_all : end ≤ i → Filled s b end at end
   unfolding filled
   same_all l =
       let z : i ≡ end = omega (arith, h.high) in
@@ -73,16 +73,16 @@ module _ {s : List ℕ} {b end at i : ℕ} (h : Same s b end at i) where
       record { bad = λ m. absurd (omega arith); all = λ _. h.rest ∙ rw (y, z) refl }
 
 module _ (s : List ℕ) (kind end at : ℕ) where
-  pub fill_none : (a : List ℕ) (o : ℕ) → end ≤ at → at ≤ end → o ≤ 8 * at + 131072 → Did a a o at end (fill s kind end at) (Took at o)
+  pub fill_none : (a : List ℕ) (o : ℕ) → end ≤ at → at ≤ end → o ≤ 8 * at + 131072 → Did a a o at end (fill s kind end at) (came at o)
   unfolding fill
   fill_none a o h i l = rw (le-ltb at end h) (did_none a o at end i l)
 
   module _ {i : ℕ} (h : at < end) (w : Filled s (get_or s at 0) end at i) where
-    pub fill_differs : (a : List ℕ) (o : ℕ) → i < end → Did a a o at end (fill s kind end at) (Fails FillDiffers i)
+    pub fill_differs : (a : List ℕ) (o : ℕ) → i < end → Did a a o at end (fill s kind end at) (refused FillDiffers i)
     unfolding fill
     fill_differs a o l = rw (lt-ltb at end h, w.bad l) (fell refl)
 
-    pub fill_put : {a b : List ℕ} {o q : ℕ} → end ≤ i → o ≤ 8 * at + 131072 → q ≡ o + 7 → Put a b o q (record_bytes kind (get_or s at 0 ∷ le16 (end - at))) → Did a b o at end (fill s kind end at) (Took end q)
+    pub fill_put : {a b : List ℕ} {o q : ℕ} → end ≤ i → o ≤ 8 * at + 131072 → q ≡ o + 7 → Put a b o q (record_bytes kind (get_or s at 0 ∷ le16 (end - at))) → Did a b o at end (fill s kind end at) (came end q)
     unfolding fill
     fill_put l m n f = rw (lt-ltb at end h, w.all l) (did_one kind (get_or s at 0 ∷ le16 (end - at)) at end f (omega arith) (omega arith))
 
@@ -92,7 +92,7 @@ unfolding layouts.info
 info_inside s d = record { is = λ at. d }
 
 module _ (s : List ℕ) (end at : ℕ) {t : Bool} (k : t ≡ to_fill s end at) where
-  pub info_none : (a : List ℕ) (o : ℕ) → t ≡ false → Did a a o at end (cia_element s end at) (Fails Missing end)
+  pub info_none : (a : List ℕ) (o : ℕ) → t ≡ false → Did a a o at end (cia_element s end at) (refused Missing end)
   info_none a o e = rw (sym k ∙ e) (fell refl)
 
   pub info_one : {a b : List ℕ} {o : ℕ} {r : Part} → t ≡ true → Did a b o at end (component s 0x30 Required (cia_body s) end at) r → Did a b o at end (cia_element s end at) r
@@ -101,18 +101,18 @@ module _ (s : List ℕ) (end at : ℕ) {t : Bool} (k : t ≡ to_fill s end at) w
   pub more_filled : {a b : List ℕ} {o : ℕ} {r : Part} → t ≡ false → Did a b o at end (fill s 0x0108 end at) r → Did a b o at end (cia_fill s end at) r
   more_filled e d = rw (sym k ∙ e) d
 
-  module _ {h : Head} (e : t ≡ true) (g : h ≡ header s at end) where
-    pub more_bad : (a : List ℕ) (o : ℕ) {f : Fault} {p : ℕ} → h ≡ No f p → Did a a o at end (cia_fill s end at) (Fails f p)
-    more_bad a o q = rw (sym k ∙ e, sym g ∙ q) (fell refl)
+  module _ (e : t ≡ true) where
+    pub more_bad : (a : List ℕ) (o : ℕ) {r : Refusal} → Err r ≡ header s at end → Did a a o at end (cia_fill s end at) (Err r)
+    more_bad a o q = rw (sym k ∙ e, sym q) (fell refl)
 
-    pub more_one : (a : List ℕ) (o : ℕ) {x y z : ℕ} → h ≡ At x y z → Did a a o at end (cia_fill s end at) (Fails OneMore at)
-    more_one a o q = rw (sym k ∙ e, sym g ∙ q) (fell refl)
+    pub more_one : (a : List ℕ) (o : ℕ) {x : Header} → Ok x ≡ header s at end → Did a a o at end (cia_fill s end at) (refused OneMore at)
+    more_one a o q = rw (sym k ∙ e, sym q) (fell refl)
 
-module _ {a b : List ℕ} {o at end : ℕ} (s : List ℕ) {w : Part} (d : Did a b o at end (cia_element s end at) w) where
-  pub info_fails : {f : Fault} {p : ℕ} → w ≡ Fails f p → Did a b o at end (cia s end at) (Fails f p)
+module _ {a b : List ℕ} {o at end : ℕ} (s : List ℕ) where
+  pub info_fails : {e : Refusal} → Did a b o at end (cia_element s end at) (Err e) → Did a b o at end (cia s end at) (Err e)
   unfolding layouts.cia
-  info_fails z = did_fails d (λ n. cia_fill s end n) z
+  info_fails d = did_fails d (λ n. cia_fill s end n)
 
-  pub info_then : {n q : ℕ} {c : List ℕ} {r : Part} → w ≡ Took n q → Did b c q n end (cia_fill s end n) r → Did a c o at end (cia s end at) r
+  pub info_then : {p : Cursor} {c : List ℕ} {r : Part} → Did a b o at end (cia_element s end at) (Ok p) → Did b c p.book p.dump end (cia_fill s end p.dump) r → Did a c o at end (cia s end at) r
   unfolding layouts.cia
-  info_then z g = did_then d z (λ m. cia_fill s end m) g
+  info_then d g = did_then d (λ m. cia_fill s end m) g

@@ -10,29 +10,26 @@ use native.Mathlib.Omega.{arith}
 use lib.ListN.{length, get_or}
 use lib.Dec.{leb, eqb, ltb}
 use borrow.Author.Tests.{lt-ltb, le-ltb, ltb-true, ltb-false}
-use Rattle.elements.specs.declared.fault.Fault.{Fault}
 use Rattle.elements.specs.declared.fault.Fault.TheVariants.{SecondObject}
-use Rattle.elements.specs.declared.answer.Head.{Head}
-use Rattle.elements.specs.declared.answer.Head.TheVariants.{At, No}
 use Rattle.elements.specs.ChoiceLaws.{by_choose, both_true}
 use Rattle.elements.specs.Header.{header}
 use Rattle.elements.specs.Put.{Put}
 use Rattle.elements.specs.PutLaws.{put_none, put_put, put_length}
-use Rattle.objects.specs.declared.part.Part.{Part}
-use Rattle.objects.specs.declared.part.Part.TheVariants.{Took, Fails}
-use Rattle.objects.specs.declared.part.Many.{Many}
-use Rattle.objects.specs.declared.part.Many.TheVariants as many
 use Rattle.files.specs.declared.holder.Holder.{Holder}
 use Rattle.files.specs.declared.holder.Holder.TheVariants as holder
 use Rattle.rules.specs.Reading.{Rec, rec, Res, took, fails, also}
 use Rattle.rules.specs.Parts.{element, whatever}
 use Rattle.rules.specs.Objects.{counts, contents, object, object_body}
 use Rattle.rules.specs.Files.{to_fill, fill}
-use Rattle.objects.specs.Did.{Did, fell, Forward}
+use Rattle.objects.specs.Did.{Did, fell, Forward, came_with}
 use Rattle.objects.specs.DidLaws.{did_high, did_small, did_same}
 use Rattle.objects.specs.RepeatLaws.{Going, going_none, going_step, going_stop, going_break}
 use Rattle.files.specs.Filing.{DidObjects, did_objects, fell_objects, more_of, full_of, item_of, objects_in, opened_by, filled_up}
 use Rattle.files.specs.ObjectsLaws.{not_took, did_open, objects_fails, objects_then, objects_then_fell, plain_fill}
+use Rattle.elements.specs.Answer.{Head, refused}
+use Rattle.std.specs.Prelude.{Err, Ok}
+use Rattle.objects.specs.declared.part.Cursor.{Cursor}
+use Rattle.elements.specs.declared.answer.Refusal.{Refusal}
 
 -- an object's mark is its place, and it is one of the first 128
 counts_mark : (at : ℕ) (w : Res) {bs : List Rec} {ms : List ℕ} {n : ℕ} → counts at w ≡ took bs ms n → ms ≡ at ∷ []
@@ -52,8 +49,8 @@ object_mark s site entry k end at {bs} {ms} {n} =
     P w = w ≡ took bs ms n → ms ≡ at ∷ []
 
     go : (h : Head) → P (whatever (object_body s site entry) at h)
-    go (No f p) = λ z. absurd (not_took z)
-    go (At t a e) = body s site entry t at a e
+    go (Err r) = λ z. absurd (not_took z)
+    go (Ok x) = body s site entry x.0 at x.1 x.2
 
 pub object_few : (s : List ℕ) (site : Site) (entry k end at : ℕ) {bs : List Rec} {ms : List ℕ} {n : ℕ} → object s site entry k end at ≡ took bs ms n → k < 128
 unfolding entries.object
@@ -103,42 +100,42 @@ next_item s holder.File site entry k j end at e = refl
 next_item s holder.Record site entry k j end at e = rw (lt-ltb j (k + 1) (omega (arith, ltb-false k j e))) refl
 
 module _ {s : List ℕ} {x : Holder} {site : Site} {entry : ℕ} {a b u v : List ℕ} {end at o k j n p : ℕ} (h : Objects s x site entry a b u v end at o k j n p) {t : Bool} (m : t ≡ more_of s x end n) where
-  pub objects_all : t ≡ false → DidObjects a b u v o at end k (objects_in s x site entry k end at) (many.Took n p j)
+  pub objects_all : t ≡ false → DidObjects a b u v o at end k (objects_in s x site entry k end at) (came_with n p j)
   objects_all z = rw (going_stop h.going (sym m ∙ z)) (did_objects {n = n} h.going.put h.marks h.low h.high h.small h.few)
 
   module _ (z : t ≡ true) {y : Bool} (w : y ≡ full_of x k j) where
     -- one more than it may hold
-    pub objects_second : y ≡ true → DidObjects a b u v o at end k (objects_in s x site entry k end at) (many.Fails SecondObject n)
+    pub objects_second : y ≡ true → DidObjects a b u v o at end k (objects_in s x site entry k end at) (refused SecondObject n)
     objects_second e = rw (going_break h.going (sym m ∙ z) (more_before s x end n (sym m ∙ z)) (full_item s x site entry k j end n (sym w ∙ e))) (fell_objects h.same h.kept)
 
-    module _ (e : y ≡ false) {c : List ℕ} {r : Part} (d : Did b c p n end (object s site entry j end n) r) where
+    module _ (e : y ≡ false) where
       next : item_of s x site entry k j end n ≡ object s site entry j end n
       next = next_item s x site entry k j end n (sym w ∙ e)
 
-      pub objects_broke : {f : Fault} {i : ℕ} → r ≡ Fails f i → DidObjects a c u v o at end k (objects_in s x site entry k end at) (many.Fails f i)
-      objects_broke {f} {i} q = failed (object s site entry j end n) next (rw q at d)
+      pub objects_broke : {c : List ℕ} {r : Refusal} → Did b c p n end (object s site entry j end n) (Err r) → DidObjects a c u v o at end k (objects_in s x site entry k end at) (Err r)
+      objects_broke {c} {r} d = failed (object s site entry j end n) next d
         where
-          failed : (g : Res) → item_of s x site entry k j end n ≡ g → Did b c p n end g (Fails f i) → DidObjects a c u v o at end k (objects_in s x site entry k end at) (many.Fails f i)
-          failed (took _ _ _) g x6 = elim x6 [ ]
+          failed : (g : Res) → item_of s x site entry k j end n ≡ g → Did b c p n end g (Err r) → DidObjects a c u v o at end k (objects_in s x site entry k end at) (Err r)
+          failed (took _ _ _) g y = elim y [ ]
           failed (fails _ _) g (fell l) = rw (going_break h.going (sym m ∙ z) (more_before s x end n (sym m ∙ z)) g) (fell_objects (l ∙ h.same) h.kept)
 
-      module _ {i q : ℕ} (g : r ≡ Took i q) (fw : Forward n r) where
-        pub objects_less : end - i < end - n
-        objects_less = omega (arith, fw.is i q g, did_high d g)
+      module _ {c : List ℕ} {r : Cursor} (d : Did b c p n end (object s site entry j end n) (Ok r)) (fw : Forward n (Ok r)) where
+        pub objects_less : end - r.dump < end - n
+        objects_less = omega (arith, fw.is r refl, did_high d)
 
-        pub objects_next : {v' : List ℕ} {j' y' : ℕ} → Put v v' j j' (y' ∷ []) → y' ≡ n → Objects s x site entry a c u v' end at o k j' i q
+        pub objects_next : {v' : List ℕ} {j' y' : ℕ} → Put v v' j j' (y' ∷ []) → y' ≡ n → Objects s x site entry a c u v' end at o k j' r.dump r.book
         unfolding going_step
         objects_next {v'} {j'} {y'} f l =
-            let was = did_open (rw g at d) in
+            let was = did_open d in
             let one : was.1 ≡ n ∷ [] = object_mark s site entry j end n was.2 in
-            let is : item_of s x site entry k j end n ≡ took was.0 (n ∷ []) i = next ∙ rw one at was.2 in
+            let is : item_of s x site entry k j end n ≡ took was.0 (n ∷ []) r.dump = next ∙ rw one at was.2 in
             record {
-              going = going_step h.going (sym m ∙ z) (more_before s x end n (sym m ∙ z)) was.0 (n ∷ []) is was.3 (fw.is i q g) (did_high d g) (did_small d g) f.at;
+              going = going_step h.going (sym m ∙ z) (more_before s x end n (sym m ∙ z)) was.0 (n ∷ []) is was.3 (fw.is r refl) (did_high d) (did_small d) f.at;
               marks = put_put h.marks (rw l at f);
               few = omega (arith, object_few s site entry j end n was.2, f.at);
-              low = omega (arith, h.low, fw.is i q g);
-              high = did_high d g;
-              small = did_small d g;
+              low = omega (arith, h.low, fw.is r refl);
+              high = did_high d;
+              small = did_small d;
               same = did_same d ∙ h.same;
               kept = put_length f ∙ h.kept;
             }
@@ -165,13 +162,13 @@ module _ {x : Holder} (k j : ℕ) where
   full_record e = rw e refl
 
 -- objects behind the record that opens them, and then fill
-module _ {a b u v : List ℕ} {o at end k : ℕ} (s : List ℕ) (x : Holder) (kind : ℕ) (site : Site) (entry : ℕ) {w : Many} (d : DidObjects a b u v o at end k (opened_by s x kind site entry k end at) w) where
-  pub held_fails : {f : Fault} {p : ℕ} → w ≡ many.Fails f p → DidObjects a b u v o at end k (filled_up s x kind site entry k end at) (many.Fails f p)
-  held_fails z = objects_fails d (λ n. fill s 0x0107 end n) z
+module _ {a b u v : List ℕ} {o at end k : ℕ} (s : List ℕ) (x : Holder) (kind : ℕ) (site : Site) (entry : ℕ) where
+  pub held_fails : {e : Refusal} → DidObjects a b u v o at end k (opened_by s x kind site entry k end at) (Err e) → DidObjects a b u v o at end k (filled_up s x kind site entry k end at) (Err e)
+  held_fails d = objects_fails d (λ n. fill s 0x0107 end n)
 
-  module _ {n q j : ℕ} (z : w ≡ many.Took n q j) {c : List ℕ} {y : Part} (e : Did b c q n end (fill s 0x0107 end n) y) where
-    pub held_fill_fails : {f : Fault} {p : ℕ} → y ≡ Fails f p → DidObjects a c u v o at end k (filled_up s x kind site entry k end at) (many.Fails f p)
-    held_fill_fails g = objects_then_fell d z (λ m. fill s 0x0107 end m) e g
+  module _ {p : Cursor} {j : ℕ} (d : DidObjects a b u v o at end k (opened_by s x kind site entry k end at) (Ok (p, j))) {c : List ℕ} where
+    pub held_fill_fails : {e : Refusal} → Did b c p.book p.dump end (fill s 0x0107 end p.dump) (Err e) → DidObjects a c u v o at end k (filled_up s x kind site entry k end at) (Err e)
+    held_fill_fails e = objects_then_fell d (λ m. fill s 0x0107 end m) e
 
-    pub held_filled : {m t : ℕ} → y ≡ Took m t → DidObjects a c u v o at end k (filled_up s x kind site entry k end at) (many.Took m t j)
-    held_filled g = objects_then d z (λ m. fill s 0x0107 end m) e (plain_fill s 0x0107 end n) g
+    pub held_filled : {y : Cursor} → Did b c p.book p.dump end (fill s 0x0107 end p.dump) (Ok y) → DidObjects a c u v o at end k (filled_up s x kind site entry k end at) (Ok (y, j))
+    held_filled e = objects_then d (λ m. fill s 0x0107 end m) (plain_fill s 0x0107 end p.dump) e

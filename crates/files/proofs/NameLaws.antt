@@ -16,7 +16,6 @@ use Rattle.elements.specs.Header.{header}
 use Rattle.elements.specs.HeaderLaws.{header_in}
 use Rattle.elements.specs.Lists.{Bytes}
 use Rattle.elements.specs.declared.fault.Fault.{Fault}
-use Rattle.elements.specs.declared.answer.Head.TheVariants.{At}
 use Rattle.rules.specs.Reading.{Rec, rec, Res, took, fails, also, and_then}
 use Rattle.rules.specs.Parts.{element}
 use Rattle.rules.specs.declared.site.Site.{Site}
@@ -32,9 +31,11 @@ use Rattle.rules.specs.Files.{Name, names_of, paths, met, equal, first_again, fi
 use Rattle.cards.proofs.CardKinds.{objects_names}
 use Rattle.files.specs.Filing.{PathsTold}
 use Rattle.files.specs.declared.scan.Key.TheVariants.{Path}
-use Rattle.files.specs.Scan.{bears, key_at}
+use Rattle.files.specs.Scan.{bears, key_at, or_else}
 use Rattle.files.specs.LiesLaws.{First}
 use Rattle.files.proofs.ScanLaws.{name_at, names_first, keys_first, keys_append}
+use Rattle.elements.specs.Answer.{found}
+use Rattle.std.specs.Prelude.{Option, Some, None}
 
 -- a part that names no path
 pub data Silent : Res → Type 0 where
@@ -74,7 +75,7 @@ module _ (s : List ℕ) where
 pub record Entry (s : List ℕ) (end at : ℕ) (bs : List Rec) (n : ℕ) : Type 0 where
   pub tag : ℕ
   pub from : ℕ
-  pub head : header s at end ≡ At tag from n
+  pub head : header s at end ≡ found tag from n
   pub first : Rec
   pub rest : List Rec
   pub are : bs ≡ first ∷ rest
@@ -95,14 +96,14 @@ module _ (s : List ℕ) (small : length s ≤ 32768) where
     by_item (inl (t, inl path)) m {a} {e} st w i b v =
         let c = element_bytes (low 0x30 (element_bytes (low 0x04 path))) in
         let z : first_of (low t c) ≡ t = low_first t c (known_low t m.0) in
-        let q : header s at end ≡ At t a e = st.is ∙ rw z refl in
+        let q : header s at end ≡ found t a e = st.is ∙ rw z refl in
         let p = tag_at a e 0x30 (element_bytes (low 0x04 path)) (low_tag_lem 0x30 tt) st.order (omega (arith, st.inside)) st.within in
         record { tag = t; from = a; head = q ∙ rw w refl; first = rec 0x0110 (t ∷ 0 ∷ path); rest = []; are = refl; quiet = refl; names = rw (q, m.0, p, le-leb 2 (length (t ∷ 0 ∷ path)) (omega arith)) refl; bound = b; laid = v }
     by_item (inl (t, inr objects)) m {a} {e} st w i b v =
         let d = (listed (object t)).part.bytes objects in
         let c = element_bytes (low 0xa0 d) in
         let z : first_of (low t c) ≡ t = low_first t c (known_low t m.0) in
-        let q : header s at end ≡ At t a e = st.is ∙ rw z refl in
+        let q : header s at end ≡ found t a e = st.is ∙ rw z refl in
         let p = tag_at a e 0xa0 d (low_tag_lem 0xa0 tt) st.order (omega (arith, st.inside)) st.within in
         record { tag = t; from = a; head = q ∙ rw w refl; first = rec 0x0110 (t ∷ 1 ∷ []); rest = (many (object t).part).book (into (into i (item.shape (inl (t, inr objects)))) ((inline t).shape objects)) objects; are = refl; quiet = objects_names t _ objects; names = rw (q, m.0, p) refl; bound = b; laid = v }
     by_item (inr x) m {a} {e} st w i b v =
@@ -166,7 +167,7 @@ again_last key before (p ∷ ps) h = go (again_last key (p ∷ before) ps) (met 
     go i false z = rw (← turned (equal key p) (met key before) (met key ps)) (omega (arith, i (omega arith)))
 
 -- the ways past an entry of EF.OD, to the place of the path entry after m others
-module _ (s : List ℕ) (m end i : ℕ) {t a e : ℕ} (l : i < end) (q : header s i end ≡ At t a e) {g k : ℕ} (u : g ≡ suc k) where
+module _ (s : List ℕ) (m end i : ℕ) {t a e : ℕ} (l : i < end) (q : header s i end ≡ found t a e) {g k : ℕ} (u : g ≡ suc k) where
   place_here : is_naming s (header s i end) ≡ true → m ≡ 0 → entry_place s g m end i ≡ i
   unfolding entry_place
   place_here x z = rw (u, lt-ltb i end l, x, eq-eqb m 0 z) refl
@@ -180,16 +181,19 @@ module _ (s : List ℕ) (m end i : ℕ) {t a e : ℕ} (l : i < end) (q : header 
   place_next x = rw (u, lt-ltb i end l, x, q) refl
 
 -- the entries up to n name the paths ps: what is known of `again`, and that the search for an entry's place has come to n
-pub record Naming (s : List ℕ) (end at n : ℕ) (ps : List (List ℕ)) (again : ℕ) : Type 0 where
+pub record Naming (s : List ℕ) (end at n : ℕ) (ps : List (List ℕ)) (again : Option ℕ) : Type 0 where
   pub told : PathsTold s end at ps again
   pub turns : ℕ
   pub enough : end - n ≤ turns
   pub comes : (m : ℕ) → entry_place s (length s) (length ps + m) end at ≡ entry_place s turns m end n
 
-pub naming_start : (s : List ℕ) (end at : ℕ) → end ≤ length s → Naming s end at at [] 0
+none_some : {p : ℕ} → ◌≡◌ {A = Option ℕ} None (Some p) → ⊥
+none_some z = let y : ◌≡◌ {A = ℕ} 0 1 = cc in omega arith
+
+pub naming_start : (s : List ℕ) (end at : ℕ) → end ≤ length s → Naming s end at at [] None
 unfolding first_again
 naming_start s end at h = record {
-  told = record { never = λ _. refl; twice = λ z. absurd (omega arith) };
+  told = record { never = λ _. refl; twice = λ p z. absurd (none_some z) };
   turns = length s;
   enough = omega arith;
   comes = λ m. let e : 0 + m ≡ m = omega arith in rw e refl;
@@ -199,19 +203,15 @@ turn : (d g : ℕ) → d ≤ g → 0 < d → (k : ℕ) × (g ≡ suc k)
 turn d zero h l = absurd (omega arith)
 turn d (suc k) h l = (k, refl)
 
--- a place that is known stays
-known : (v x : ℕ) → pick (eqb (suc v) 0) x (suc v) ≡ suc v
-known v x = rw (ne_eqb (suc v) 0 (λ z. omega arith)) refl
-
 -- one entry more, which names the path `key` or none
-module _ {s : List ℕ} {end at n : ℕ} {ps : List (List ℕ)} {again : ℕ} (w : Naming s end at n ps again) (l : n < end) (pos : 0 < n) {t a e : ℕ} (q : header s n end ≡ At t a e) where
+module _ {s : List ℕ} {end at n : ℕ} {ps : List (List ℕ)} {again : Option ℕ} (w : Naming s end at n ps again) (l : n < end) {t a e : ℕ} (q : header s n end ≡ found t a e) where
   naming_none : is_naming s (header s n end) ≡ false → Naming s end at e ps again
   naming_none x =
       let b = header_in s n end q in
       let g = turn (end - n) w.turns w.enough (omega arith) in
       record { told = w.told; turns = g.0; enough = omega (arith, w.enough, g.1); comes = λ m. w.comes m ∙ place_next s m end n l q g.1 x }
 
-  naming_one : {r : ℕ} (key : List ℕ) → is_naming s (header s n end) ≡ true → r ≡ pick (eqb again 0) (pick (met key ps) n 0) again → Naming s end at e (ps ++ (key ∷ [])) r
+  naming_one : {r : Option ℕ} (key : List ℕ) → is_naming s (header s n end) ≡ true → r ≡ or_else again (pick (met key ps) (Some n) None) → Naming s end at e (ps ++ (key ∷ [])) r
   naming_one {r} key x y =
       let b = header_in s n end q in
       let g = turn (end - n) w.turns w.enough (omega arith) in
@@ -228,24 +228,33 @@ module _ {s : List ℕ} {end at n : ℕ} {ps : List (List ℕ)} {again : ℕ} (w
       more : length (ps ++ (key ∷ [])) ≡ length ps + 1
       more = length-append ps (key ∷ [])
 
-      told_one : (v : ℕ) → PathsTold s end at ps v → r ≡ pick (eqb v 0) (pick (met key ps) n 0) v → PathsTold s end at (ps ++ (key ∷ [])) r
-      told_one zero p y = by_met (met key ps) (again_last key [] ps (p.never refl)) y
+      told_one : (v : Option ℕ) → PathsTold s end at ps v → r ≡ or_else v (pick (met key ps) (Some n) None) → PathsTold s end at (ps ++ (key ∷ [])) r
+      told_one None p y = by_met (met key ps) (again_last key [] ps (p.never refl)) y
         where
-          by_met : (u : Bool) → first_again [] (ps ++ (key ∷ [])) ≡ length ps + pick u 0 1 → r ≡ pick u n 0 → PathsTold s end at (ps ++ (key ∷ [])) r
+          by_met : (u : Bool) → first_again [] (ps ++ (key ∷ [])) ≡ length ps + pick u 0 1 → r ≡ pick u (Some n) None → PathsTold s end at (ps ++ (key ∷ [])) r
           by_met true f z =
               let g = turn (end - n) w.turns w.enough (omega arith) in
-              record { never = λ v. absurd (omega arith); twice = λ _. rw f (omega (arith, more), z ∙ sym (w.comes 0 ∙ place_here s 0 end n l q g.1 x refl)) }
-          by_met false f z = record { never = λ _. omega (arith, more); twice = λ v. absurd (omega arith) }
-      told_one (suc v) p y =
-          let o = p.twice (omega arith) in
-          let z : r ≡ suc v = y ∙ known v (pick (met key ps) n 0) in
-          record { never = λ x. absurd (omega arith); twice = λ _. rw (again_more [] ps (key ∷ []) o.0) (omega (arith, o.0, more), z ∙ o.1) }
+              record {
+                never = λ v. absurd (none_some (sym v ∙ z));
+                twice = λ x' v.
+                    let same : n ≡ x' = cc in
+                    rw f (omega (arith, more), sym same ∙ sym (w.comes 0 ∙ place_here s 0 end n l q g.1 x refl));
+              }
+          by_met false f z = record { never = λ _. omega (arith, more); twice = λ x v. absurd (none_some (sym z ∙ v)) }
+      told_one (Some v) p y =
+          let o = p.twice v refl in
+          record {
+            never = λ x. absurd (none_some (sym x ∙ y));
+            twice = λ x u.
+                let same : v ≡ x = cc in
+                rw (again_more [] ps (key ∷ []) o.0) (omega (arith, o.0, more), sym same ∙ o.1);
+          }
 
   -- by what its first record bears
-  pub naming_next : {r : ℕ} {x : Bool} (key : List ℕ) → x ≡ is_naming s (header s n end) → r ≡ pick (eqb again 0) (pick (x && met key ps) n 0) again → Naming s end at e (ps ++ choose x (λ _. key ∷ []) (λ _. [])) r
+  pub naming_next : {r : Option ℕ} {x : Bool} (key : List ℕ) → x ≡ is_naming s (header s n end) → r ≡ or_else again (pick (x && met key ps) (Some n) None) → Naming s end at e (ps ++ choose x (λ _. key ∷ []) (λ _. [])) r
   naming_next {x = true} key x y = naming_one key (sym x) y
   naming_next {x = false} key x y = rw (append-nil ps, y ∙ same again) (naming_none (sym x))
     where
-      same : (v : ℕ) → pick (eqb v 0) 0 v ≡ v
-      same zero = refl
-      same (suc v) = known v 0
+      same : (v : Option ℕ) → or_else v None ≡ v
+      same None = refl
+      same (Some v) = refl

@@ -13,8 +13,6 @@ use Rattle.elements.specs.Choice.{pick, choose}
 use Rattle.elements.specs.ChoiceLaws.{both_true}
 use Rattle.elements.specs.Lists.{cons, join}
 use Rattle.elements.specs.declared.fault.Fault.TheVariants.{AuthIdTwice}
-use Rattle.files.specs.declared.scan.Clash.{Clash}
-use Rattle.files.specs.declared.scan.Clash.TheVariants.{At, None}
 use Rattle.files.specs.declared.scan.Key.{Key}
 use Rattle.files.specs.declared.scan.Key.TheVariants.{Path, Own}
 use Rattle.rules.specs.Reading.{Rec}
@@ -26,7 +24,9 @@ use Rattle.rules.specs.LookLaws.{Laid}
 use Rattle.rules.specs.Pays.{pays, ids_of, pays_append, names_append}
 use Rattle.files.specs.Scan.{Lies, Holds, AgainTold, clash_of, IdsTold, NextName, last, found, NameTold, Whole, behind, bears, skip, key_at, keys_of, Spans, MetTold, RepeatTold, placed_keys, Places, Index, Indexed, Noted}
 use Rattle.objects.specs.DidLaws.{encode_append}
-use Rattle.files.specs.LiesLaws.{First, Some, some, some_lie, none_lie, lie_same}
+use Rattle.files.specs.LiesLaws.{First, Begun, some, some_lie, none_lie, lie_same}
+use Rattle.std.specs.Prelude.{Some, None, Option}
+use Rattle.std.specs.Bool.{then_some}
 
 -- what `bears` says of each key
 pub bears_path : (b : List ℕ) (j : ℕ) {x : Key} {n : ℕ} {r : Bool} → x ≡ Path → n ≡ behind b j → r ≡ names_path (two b (j + 2)) (slice (j + 4) n b) → r ≡ bears b x j
@@ -58,22 +58,22 @@ pub unnamed_none : {b : List ℕ} {i end : ℕ} → Holds b i end → Unnamed b 
 unnamed_none h = record { all = h.rs; lies = h.lies; left = h.rs; after = h.lies; same = refl }
 
 module _ {b : List ℕ} {i end j : ℕ} (w : Unnamed b i end j) where
-  pub unnamed_all : end ≤ j → NameTold b i end j
+  pub unnamed_all : end ≤ j → NameTold b i end None
   unfolding names_of
-  unnamed_all h = record { is = λ rs l. last (omega (arith, w.after.low)) (ap names_of (lie_same l w.lies) ∙ w.same ∙ ap names_of (none_lie w.after h)) }
+  unnamed_all h = record { is = λ rs l. last (ap names_of (lie_same l w.lies) ∙ w.same ∙ ap names_of (none_lie w.after h)) }
 
   module _ (h : j < end) {t : Bool} (e : t ≡ bears b Path j) where
     pub unnamed_next : {n : ℕ} → t ≡ false → n ≡ behind b j → Unnamed b i end n
     unnamed_next {n} q k = go (some_lie w.after h) w.same
       where
-        go : {rs : List Rec} → Some b j end rs → names_of w.all ≡ names_of rs → Unnamed b i end n
+        go : {rs : List Rec} → Begun b j end rs → names_of w.all ≡ names_of rs → Unnamed b i end n
         go (some {rest = rest} f) s = record { all = w.all; lies = w.lies; left = rest; after = rw k f.after; same = rw (names_first f rest, sym e ∙ q) at s }
 
-    pub unnamed_found : t ≡ true → NameTold b i end j
+    pub unnamed_found : t ≡ true → NameTold b i end (Some j)
     unfolding bears
     unnamed_found q = record { is = λ rs l. go (some_lie w.after h) (ap names_of (lie_same l w.lies) ∙ w.same) }
       where
-        go : {rs ws : List Rec} → Some b j end ws → names_of rs ≡ names_of ws → NextName b end rs j
+        go : {rs ws : List Rec} → Begun b j end ws → names_of rs ≡ names_of ws → NextName b end rs (Some j)
         go (some {rest = rest} f) s =
             let m = name_room (two b (j + 2)) b j (behind b j) (omega (arith, f.within, f.after.high)) (sym e ∙ q) in
             let i : j + 4 + 0 ≡ j + 4 = omega arith in
@@ -136,7 +136,7 @@ module _ {b : List ℕ} {x : Key} {i j p e k : ℕ} (w : Unmet b x i j p e k) wh
   unmet_all h = to_told (rw (none_lie w.after h, keys_none x) refl)
 
   -- the record at k decides, or what follows it
-  first_or : {rs : List Rec} → Some b k j rs → met (slice p e b) (keys_of x rs) ≡ ((bears b x k && equal (slice p e b) (key_at b x k)) || met (slice p e b) (keys_of x (drop 1 rs)))
+  first_or : {rs : List Rec} → Begun b k j rs → met (slice p e b) (keys_of x rs) ≡ ((bears b x k && equal (slice p e b) (key_at b x k)) || met (slice p e b) (keys_of x (drop 1 rs)))
   first_or (some {rest = rest} f) = rw (keys_first f x rest) (go (bears b x k))
     where
       go : (t : Bool) → met (slice p e b) (choose t (λ _. key_at b x k ∷ keys_of x rest) (λ _. keys_of x rest)) ≡ ((t && equal (slice p e b) (key_at b x k)) || met (slice p e b) (keys_of x rest))
@@ -150,7 +150,7 @@ module _ {b : List ℕ} {x : Key} {i j p e k : ℕ} (w : Unmet b x i j p e k) wh
     pub unmet_next : {n : ℕ} → t ≡ false → n ≡ behind b k → Unmet b x i j p e n
     unmet_next {n} u m = go (some_lie w.after h) w.same
       where
-        go : {rs : List Rec} → Some b k j rs → met (slice p e b) (keys_of x w.all) ≡ met (slice p e b) (keys_of x rs) → Unmet b x i j p e n
+        go : {rs : List Rec} → Begun b k j rs → met (slice p e b) (keys_of x w.all) ≡ met (slice p e b) (keys_of x rs) → Unmet b x i j p e n
         go (some {rest = rest} f) s = record { all = w.all; lies = w.lies; left = rest; after = rw m f.after; same = s ∙ rw (first_or (some f), sym q ∙ u) refl }
 
 -- what `repeats` answers
@@ -163,16 +163,16 @@ module _ {b : List ℕ} {x : Key} {i j : ℕ} {t : Bool} (e : t ≡ bears b x j)
   repeat_none u = record { is = λ rs z. rw (sym e ∙ u) refl }
 
 -- what `first_again` answers
-module _ {b : List ℕ} {i j place again : ℕ} where
-  pub again_kept : (again ≡ 0 → ⊥) → AgainTold b i j place again again
-  again_kept h = record { is = λ rs l. rw (ne_eqb again 0 h) refl }
+pub again_kept : {b : List ℕ} {i j place p : ℕ} {again : Option ℕ} → again ≡ Some p → AgainTold b i j place again (Some p)
+again_kept e = record { is = λ rs l. rw e refl }
 
-  module _ (h : again ≡ 0) {t : Bool} (w : RepeatTold b Path i j t) where
-    pub again_here : t ≡ true → AgainTold b i j place again place
-    again_here q = record { is = λ rs l. rw (eq-eqb again 0 h, sym (w.is rs l) ∙ q) refl }
-
-    pub again_none : t ≡ false → AgainTold b i j place again 0
-    again_none q = record { is = λ rs l. rw (eq-eqb again 0 h, sym (w.is rs l) ∙ q) refl }
+module _ {b : List ℕ} {i j : ℕ} {t : Bool} (w : RepeatTold b Path i j t) where
+  pub again_told : {place : ℕ} {again r : Option ℕ} → again ≡ None → r ≡ then_some t place → AgainTold b i j place again r
+  again_told {place} e z = record { is = λ rs l. rw (e, ← w.is rs l) (z ∙ go t) }
+    where
+      go : (t : Bool) → then_some t place ≡ pick t (Some place) None
+      go true = refl
+      go false = refl
 
 -- the keys of records one behind the other
 pub keys_append : (x : Key) (rs ws : List Rec) → keys_of x (rs ++ ws) ≡ keys_of x rs ++ keys_of x ws
@@ -269,7 +269,7 @@ pub apart_none : {b : List ℕ} {i end : ℕ} (marks : List ℕ) → Holds b i e
 apart_none marks h = record { few = omega arith; all = h.rs; left = h.rs; ids = []; gone = gone_none Own h.lies; same = refl }
 
 module _ {b marks : List ℕ} {i end j k place : ℕ} (w : Apart b marks i end j k place) where
-  to_ids : {r : Clash} → repeated w.ids place (drop k marks) w.left ≡ clash_of r → IdsTold b marks i end r
+  to_ids : {r : Option ℕ} → repeated w.ids place (drop k marks) w.left ≡ clash_of r → IdsTold b marks i end r
   to_ids e = record { is = λ rs l. rw (lie_same l w.gone.lies) (w.same ∙ e) }
 
   pub apart_all : end ≤ j → IdsTold b marks i end None
@@ -277,16 +277,16 @@ module _ {b marks : List ℕ} {i end j k place : ℕ} (w : Apart b marks i end j
   apart_all h = to_ids (rw (none_lie w.gone.after h) refl)
 
   module _ (h : j < end) {t : Bool} (e : RepeatTold b Own i j t) where
-    pub apart_met : t ≡ true → IdsTold b marks i end (At place)
+    pub apart_met : t ≡ true → IdsTold b marks i end (Some place)
     apart_met q = to_ids (go (some_lie w.gone.after h) (both_true (bears b Own j) (met (key_at b Own j) w.ids) (sym (gone_told w.gone e) ∙ q)))
       where
-        go : {rs : List Rec} → Some b j end rs → (bears b Own j ≡ true) × (met (key_at b Own j) w.ids ≡ true) → repeated w.ids place (drop k marks) rs ≡ wrong_at AuthIdTwice place
+        go : {rs : List Rec} → Begun b j end rs → (bears b Own j ≡ true) × (met (key_at b Own j) w.ids ≡ true) → repeated w.ids place (drop k marks) rs ≡ wrong_at AuthIdTwice place
         go (some f) (u, v) = rw (repeated_first f w.ids place (drop k marks), no_object_lem b j u, u, v) refl
 
     pub apart_next : {c n : ℕ} → t ≡ false → c ≡ two b (j + 2) → (c ≡ 0x0120 → ⊥) → n ≡ behind b j → Apart b marks i end n k place
     apart_next {c} {n} q o x d = go (some_lie w.gone.after h) w.gone w.same
       where
-        go : {rs : List Rec} → Some b j end rs → Gone b Own i end j w.all rs w.ids → repeated [] 0 marks w.all ≡ repeated w.ids place (drop k marks) rs → Apart b marks i end n k place
+        go : {rs : List Rec} → Begun b j end rs → Gone b Own i end j w.all rs w.ids → repeated [] 0 marks w.all ≡ repeated w.ids place (drop k marks) rs → Apart b marks i end n k place
         go (some {rest = rest} f) g s = by_bears (bears b Own j) refl (rw (repeated_first f w.ids place (drop k marks), ne_eqb (two b (j + 2)) 0x0120 (λ z. x (o ∙ z))) at s) (gone_next g f)
           where
             by_bears : (u : Bool) → bears b Own j ≡ u →
@@ -301,7 +301,7 @@ module _ {b marks : List ℕ} {i end j k place : ℕ} (w : Apart b marks i end j
   pub apart_object : {c v n : ℕ} → j < end → c ≡ two b (j + 2) → c ≡ 0x0120 → v ≡ get_or marks k 0 → n ≡ behind b j → Apart b marks i end n (k + 1) v
   apart_object {c} {v} {n} h o x p d = go (some_lie w.gone.after h) w.gone w.same
     where
-      go : {rs : List Rec} → Some b j end rs → Gone b Own i end j w.all rs w.ids → repeated [] 0 marks w.all ≡ repeated w.ids place (drop k marks) rs → Apart b marks i end n (k + 1) v
+      go : {rs : List Rec} → Begun b j end rs → Gone b Own i end j w.all rs w.ids → repeated [] 0 marks w.all ≡ repeated w.ids place (drop k marks) rs → Apart b marks i end n (k + 1) v
       go (some {rest = rest} f) g s =
           let kind : two b (j + 2) ≡ 0x0120 = sym o ∙ x in
           let z : k + 0 ≡ k = omega arith in
@@ -400,7 +400,7 @@ module _ {b own : List ℕ} {i j c : ℕ} (w : Indexed b own i j c) where
   unfolding gone_next
   indexed_next {own' = own'} {end = end} {m = m} {n = n} a h x d = go (some_lie a.gone.after h) a.gone
     where
-      go : {all left : List Rec} {ids : List (List ℕ)} → Some b j end left → Gone b Own i end j all left ids → Indexed b own' i n m
+      go : {all left : List Rec} {ids : List (List ℕ)} → Begun b j end left → Gone b Own i end j all left ids → Indexed b own' i n m
       go (some {r = r} f) g = record {
         rs = g.done ++ (r ∷ []);
         lies = rw d (gone_lies (gone_next g f));

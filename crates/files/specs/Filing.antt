@@ -1,12 +1,9 @@
 -- What the code does of a file's parts: its fill, its objects with their places, EF.OD's entries.
-use Rattle.std.specs.Prelude.{ℕ, ◌+◌, ◌-◌, ◌*◌, ◌≤◌, ◌<◌, ◌≡◌, List, [], ◌∷◌, Bool, false, length, ltb}
+use Rattle.std.specs.Prelude.{ℕ, ◌+◌, ◌-◌, ◌*◌, ◌≤◌, ◌<◌, ◌≡◌, List, [], ◌∷◌, Bool, false, length, ltb, Option, Some, None, Result, Ok, Err}
 use Rattle.elements.specs.declared.fault.Fault.{Fault}
 use Rattle.elements.specs.declared.fault.Fault.TheVariants.{FillDiffers, SecondObject}
 use Rattle.elements.specs.Put.{Put}
-use Rattle.objects.specs.declared.part.Many.{Many}
-use Rattle.objects.specs.declared.part.Many.TheVariants as many
-use Rattle.files.specs.declared.answer.Entries.{Entries}
-use Rattle.files.specs.declared.answer.Entries.TheVariants as entries
+use Rattle.elements.specs.declared.answer.Refusal.{Refusal}
 use Rattle.files.specs.declared.holder.Holder.{Holder}
 use Rattle.files.specs.declared.holder.Holder.TheVariants as holder
 use Rattle.rules.specs.Reading.{Rec, rec, Res, took, fails, also, Reader, ◌then◌}
@@ -15,6 +12,10 @@ use Rattle.rules.specs.declared.site.Site.{Site}
 use Rattle.rules.specs.Objects.{object}
 use Rattle.rules.specs.Files.{to_fill, filled, fill, entry_inside, entry_body, names_of, paths, first_again, entry_place}
 use Rattle.rules.specs.Book.{encode}
+use Rattle.objects.specs.Did.{Many, came_with}
+use Rattle.elements.specs.Answer.{refused}
+use Rattle.files.specs.declared.answer.Entries.{Entries}
+use Rattle.objects.specs.declared.part.Cursor.{Cursor}
 
 -- r is the first place from `at` on that differs from b, or the end
 pub record Filled (s : List ℕ) (b end at r : ℕ) : Type 0 where
@@ -23,25 +24,31 @@ pub record Filled (s : List ℕ) (b end at r : ℕ) : Type 0 where
 
 -- the same of objects, the places of which are stored from k on in lent marks, which were u and are v
 pub data DidObjects (a b u v : List ℕ) (o at end k : ℕ) : Res → Many → Type 0 where
-  did_objects : {bs : List Rec} {ms : List ℕ} {n q j : ℕ} → Put a b o q (encode bs) → Put u v k j ms → at ≤ n → n ≤ end → q ≤ 8 * n + 131072 → j ≤ 128 → DidObjects a b u v o at end k (took bs ms n) (many.Took n q j)
-  fell_objects : {f : Fault} {p : ℕ} → length b ≡ length a → length v ≡ length u → DidObjects a b u v o at end k (fails f p) (many.Fails f p)
+  did_objects : {bs : List Rec} {ms : List ℕ} {n q j : ℕ} → Put a b o q (encode bs) → Put u v k j ms → at ≤ n → n ≤ end → q ≤ 8 * n + 131072 → j ≤ 128 → DidObjects a b u v o at end k (took bs ms n) (came_with n q j)
+  fell_objects : {f : Fault} {p : ℕ} → length b ≡ length a → length v ≡ length u → DidObjects a b u v o at end k (fails f p) (refused f p)
 
--- 12: `again` is the place of the first entry of EF.OD that names a path once more, or 0, and all the paths ps differ
-pub record PathsTold (s : List ℕ) (end at : ℕ) (ps : List (List ℕ)) (again : ℕ) : Type 0 where
-  pub never : again ≡ 0 → first_again [] ps ≡ length ps
-  pub twice : 0 < again → (first_again [] ps < length ps) × (again ≡ entry_place s (length s) (first_again [] ps) end at)
+-- 12: `again` is the place of the first entry of EF.OD that names a path once more; or there is none, and all the paths ps differ
+pub record PathsTold (s : List ℕ) (end at : ℕ) (ps : List (List ℕ)) (again : Option ℕ) : Type 0 where
+  pub never : again ≡ None → first_again [] ps ≡ length ps
+  pub twice : (p : ℕ) → again ≡ Some p → (first_again [] ps < length ps) × (p ≡ entry_place s (length s) (first_again [] ps) end at)
 
 -- the same of EF.OD's entries, with that place
-abbrev pub objects_of : Entries → Many
-objects_of (entries.Took n q j again) = many.Took n q j
-objects_of (entries.Fails f p) = many.Fails f p
+abbrev pub Listed : Type 0
+Listed = Result Entries Refusal
 
-pub record DidEntries (s a b u v : List ℕ) (o at end : ℕ) (w : Res) (r : Entries) : Type 0 where
+abbrev pub listed : ℕ → ℕ → ℕ → Option ℕ → Listed
+listed n q j again = Ok (record { at = record { dump = n; book = q }; objects = j; again = again })
+
+abbrev pub objects_of : Listed → Many
+objects_of (Ok c) = came_with c.at.dump c.at.book c.objects
+objects_of (Err r) = Err r
+
+pub record DidEntries (s a b u v : List ℕ) (o at end : ℕ) (w : Res) (r : Listed) : Type 0 where
   pub objects : DidObjects a b u v o at end 0 w (objects_of r)
-  pub told : {cs : List Rec} {ms : List ℕ} {m n q j again : ℕ} → w ≡ took cs ms m → r ≡ entries.Took n q j again → PathsTold s end at (paths (names_of cs)) again
+  pub told : {cs : List Rec} {ms : List ℕ} {m : ℕ} {e : Entries} → w ≡ took cs ms m → r ≡ Ok e → PathsTold s end at (paths (names_of cs)) e.again
 
 pub record ForwardMany (at : ℕ) (r : Many) : Type 0 where
-  pub is : (n q j : ℕ) → r ≡ many.Took n q j → at < n
+  pub is : (c : Cursor) (j : ℕ) → r ≡ Ok (c, j) → at < c.dump
 
 -- objects go up to the end of a list in EF.OD, or up to the fill of a file or of a record
 abbrev pub more_of : List ℕ → Holder → ℕ → ℕ → Bool

@@ -68,14 +68,14 @@ first {b} {j} {end} {r} {rest} l =
     }
 
 -- records that lie somewhere have a first one
-pub data Some (b : List ℕ) (j end : ℕ) : List Rec → Type 0 where
-  some : {r : Rec} {rest : List Rec} → First b j end r rest → Some b j end (r ∷ rest)
+pub data Begun (b : List ℕ) (j end : ℕ) : List Rec → Type 0 where
+  some : {r : Rec} {rest : List Rec} → First b j end r rest → Begun b j end (r ∷ rest)
 
-pub some_lie : {b : List ℕ} {j end : ℕ} {rs : List Rec} → Lies b j end rs → j < end → Some b j end rs
+pub some_lie : {b : List ℕ} {j end : ℕ} {rs : List Rec} → Lies b j end rs → j < end → Begun b j end rs
 unfolding encode
 some_lie {b} {j} {end} {rs} l h = go rs l
   where
-    go : (rs : List Rec) → Lies b j end rs → Some b j end rs
+    go : (rs : List Rec) → Lies b j end rs → Begun b j end rs
     go [] l = absurd (omega (arith, ends b j end l.high l.are))
     go (r ∷ rest) l = some (first l)
 
@@ -93,7 +93,7 @@ first_whole f = record { least = omega (arith, f.long); fits = omega (arith, f.w
 pub whole : {b : List ℕ} {j end : ℕ} {rs : List Rec} → Lies b j end rs → j < end → Whole b j
 whole {b} {j} {end} l h = go (some_lie l h)
   where
-    go : {rs : List Rec} → Some b j end rs → Whole b j
+    go : {rs : List Rec} → Begun b j end rs → Whole b j
     go (some f) = first_whole f
 
 -- no others lie there

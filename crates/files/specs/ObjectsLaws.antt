@@ -1,19 +1,19 @@
 -- Objects with their places: what the code does of them, one part after the other.
-use Rattle.std.specs.Prelude.{ℕ, zero, suc, ◌+◌, ◌-◌, ◌*◌, ◌≤◌, ◌≡◌, refl, List, [], ◌∷◌, ◌++◌, length, get_or, eqb, ltb}
+use Rattle.std.specs.Prelude.{ℕ, zero, suc, ◌+◌, ◌-◌, ◌*◌, ◌≤◌, ◌≡◌, refl, List, [], ◌∷◌, ◌++◌, length, get_or, eqb, ltb, Ok, Err}
 use Rattle.std.proofs.Common.{sym, ◌∙◌, append-nil, arith}
+use Rattle.std.specs.Result.{IsErr, IsErrAnd}
 use Rattle.elements.specs.declared.fault.Fault.{Fault}
+use Rattle.elements.specs.declared.answer.Refusal.{Refusal}
+use Rattle.elements.specs.AnswerLaws.{leaves}
 use Rattle.elements.specs.ChoiceLaws.{by_choose}
 use Rattle.elements.specs.Put.{Put}
 use Rattle.elements.specs.PutLaws.{put_none, put_then, put_length}
 use Rattle.elements.specs.Record.{record_bytes}
-use Rattle.objects.specs.declared.part.Part.{Part}
-use Rattle.objects.specs.declared.part.Part.TheVariants.{Took, Fails}
-use Rattle.objects.specs.declared.part.Many.{Many}
-use Rattle.objects.specs.declared.part.Many.TheVariants as many
+use Rattle.objects.specs.declared.part.Cursor.{Cursor}
 use Rattle.rules.specs.Reading.{Rec, rec, Res, took, fails, also, and_then}
 use Rattle.rules.specs.Files.{filled, fill}
 use Rattle.rules.specs.Book.{encode}
-use Rattle.objects.specs.Did.{Did, did, fell, Stays}
+use Rattle.objects.specs.Did.{Many, Did, did, fell, Stays}
 use Rattle.objects.specs.DidLaws.{encode_append, encode_one}
 use Rattle.files.specs.Filing.{DidObjects, did_objects, fell_objects}
 
@@ -25,23 +25,23 @@ pub record Plain (w : Res) : Type 0 where
   pub is : (bs : List Rec) (ms : List ℕ) (n : ℕ) → w ≡ took bs ms n → ms ≡ []
 
 -- what a part was, by the code's answer
-pub did_open : {a b : List ℕ} {o at end n q : ℕ} {w : Res} → Did a b o at end w (Took n q) → (bs : List Rec) × (ms : List ℕ) × (w ≡ took bs ms n) × Put a b o q (encode bs)
+pub did_open : {a b : List ℕ} {o at end : ℕ} {p : Cursor} {w : Res} → Did a b o at end w (Ok p) → (bs : List Rec) × (ms : List ℕ) × (w ≡ took bs ms p.dump) × Put a b o p.book (encode bs)
 did_open (did {bs = bs} {ms = ms} f _ _ _) = (bs, ms, refl, f)
 
 -- a part without marks among objects
-module _ {a b : List ℕ} {o at end : ℕ} {w : Res} {r : Part} (u : List ℕ) (k : ℕ) (d : Did a b o at end w r) where
-  pub objects_fell : {f : Fault} {p : ℕ} → r ≡ Fails f p → DidObjects a b u u o at end k w (many.Fails f p)
-  objects_fell {f} {p} z = go (rw z at d)
-    where
-      go : {w : Res} → Did a b o at end w (Fails f p) → DidObjects a b u u o at end k w (many.Fails f p)
-      go (fell e) = fell_objects e refl
+pub objects_fell : {a b : List ℕ} {o at end : ℕ} {w : Res} {e : Refusal} (u : List ℕ) (k : ℕ) → Did a b o at end w (Err e) → DidObjects a b u u o at end k w (Err e)
+objects_fell u k (fell e) = fell_objects e refl
 
-  pub objects_did : {n q : ℕ} → Plain w → k ≤ 128 → r ≡ Took n q → DidObjects a b u u o at end k w (many.Took n q k)
-  objects_did {n} {q} g h z = go w g (rw z at d)
-    where
-      go : (w : Res) → Plain w → Did a b o at end w (Took n q) → DidObjects a b u u o at end k w (many.Took n q k)
-      go (fails _ _) g x4 = elim x4 [ ]
-      go (took bs ms _) g (did f i j l) = did_objects {ms = ms} {n = n} {j = k} f (rw (g.is bs ms n refl) (put_none u k)) i j l h
+pub objects_did : {a b : List ℕ} {o at end : ℕ} {w : Res} {p : Cursor} (u : List ℕ) (k : ℕ) → Plain w → k ≤ 128 → Did a b o at end w (Ok p) → DidObjects a b u u o at end k w (Ok (p, k))
+objects_did {a} {b} {o} {at} {end} {w} {p} u k g h d = go w g d
+  where
+    go : (w : Res) → Plain w → Did a b o at end w (Ok p) → DidObjects a b u u o at end k w (Ok (p, k))
+    go (fails _ _) g x = elim x [ ]
+    go (took bs ms _) g (did f i j l) = did_objects {ms = ms} {n = p.dump} {j = k} f (rw (g.is bs ms p.dump refl) (put_none u k)) i j l h
+
+-- what a `?` hands on
+pub objects_left : {a b u v : List ℕ} {o at end k : ℕ} {w : Res} {r : Many} {e : Refusal} → IsErr r × IsErrAnd r (λ y. y ≡ e) → DidObjects a b u v o at end k w (Err e) → DidObjects a b u v o at end k w r
+objects_left h d = rw (leaves h) d
 
 module _ {a b u v : List ℕ} {o at end k : ℕ} {w : Res} {r : Many} (d : DidObjects a b u v o at end k w r) where
   pub objects_same : length b ≡ length a
@@ -65,74 +65,69 @@ module _ {a b u v : List ℕ} {o at end k : ℕ} {w : Res} {r : Many} (d : DidOb
       go (did_objects {n = n} f g i j m c) = did_objects {n = n} f g (omega arith) (omega arith) m c
       go (fell_objects e f) = fell_objects e f
 
-  -- a refusal of the first part is the whole's
-  pub objects_fails : (g : ℕ → Res) {f : Fault} {p : ℕ} → r ≡ many.Fails f p → DidObjects a b u v o at end k (and_then w g) (many.Fails f p)
-  objects_fails g {f} {p} z = go (rw z at d)
+-- a refusal of the first part is the whole's
+pub objects_fails : {a b u v : List ℕ} {o at end k : ℕ} {w : Res} {e : Refusal} → DidObjects a b u v o at end k w (Err e) → (g : ℕ → Res) → DidObjects a b u v o at end k (and_then w g) (Err e)
+objects_fails (fell_objects x y) g = fell_objects x y
+
+module _ {a b u v : List ℕ} {o at end k : ℕ} {w : Res} {p : Cursor} {j : ℕ} (d : DidObjects a b u v o at end k w (Ok (p, j))) where
+  pub objects_low : at ≤ p.dump
+  objects_low = go d
     where
-      go : {w : Res} → DidObjects a b u v o at end k w (many.Fails f p) → DidObjects a b u v o at end k (and_then w g) (many.Fails f p)
-      go (fell_objects x y) = fell_objects x y
+      go : {w : Res} → DidObjects a b u v o at end k w (Ok (p, j)) → at ≤ p.dump
+      go (did_objects _ _ i _ _ _) = i
 
-  module _ {n q j : ℕ} (z : r ≡ many.Took n q j) where
-    was : DidObjects a b u v o at end k w (many.Took n q j)
-    was = rw z at d
+  pub objects_high : p.dump ≤ end
+  objects_high = go d
+    where
+      go : {w : Res} → DidObjects a b u v o at end k w (Ok (p, j)) → p.dump ≤ end
+      go (did_objects _ _ _ i _ _) = i
 
-    pub objects_low : at ≤ n
-    objects_low = go was
-      where
-        go : {w : Res} → DidObjects a b u v o at end k w (many.Took n q j) → at ≤ n
-        go (did_objects _ _ i _ _ _) = i
+  pub objects_small : p.book ≤ 8 * p.dump + 131072
+  objects_small = go d
+    where
+      go : {w : Res} → DidObjects a b u v o at end k w (Ok (p, j)) → p.book ≤ 8 * p.dump + 131072
+      go (did_objects _ _ _ _ i _) = i
 
-    pub objects_high : n ≤ end
-    objects_high = go was
-      where
-        go : {w : Res} → DidObjects a b u v o at end k w (many.Took n q j) → n ≤ end
-        go (did_objects _ _ _ i _ _) = i
+  pub objects_few : j ≤ 128
+  objects_few = go d
+    where
+      go : {w : Res} → DidObjects a b u v o at end k w (Ok (p, j)) → j ≤ 128
+      go (did_objects _ _ _ _ _ i) = i
 
-    pub objects_small : q ≤ 8 * n + 131072
-    objects_small = go was
-      where
-        go : {w : Res} → DidObjects a b u v o at end k w (many.Took n q j) → q ≤ 8 * n + 131072
-        go (did_objects _ _ _ _ i _) = i
+  pub objects_open : (bs : List Rec) × (ms : List ℕ) × (w ≡ took bs ms p.dump) × Put a b o p.book (encode bs) × Put u v k j ms
+  objects_open = go d
+    where
+      go : {w : Res} → DidObjects a b u v o at end k w (Ok (p, j)) → (bs : List Rec) × (ms : List ℕ) × (w ≡ took bs ms p.dump) × Put a b o p.book (encode bs) × Put u v k j ms
+      go (did_objects {bs = bs} {ms = ms} f g _ _ _ _) = (bs, ms, refl, f, g)
 
-    pub objects_few : j ≤ 128
-    objects_few = go was
-      where
-        go : {w : Res} → DidObjects a b u v o at end k w (many.Took n q j) → j ≤ 128
-        go (did_objects _ _ _ _ _ i) = i
+  -- and then a part without marks
+  pub objects_then : (g : ℕ → Res) {c : List ℕ} {x : Cursor} → Plain (g p.dump) → Did b c p.book p.dump end (g p.dump) (Ok x) → DidObjects a c u v o at end k (and_then w g) (Ok (x, j))
+  objects_then g {c} {x} pl e = go d (g p.dump) refl e
+    where
+      go : {w : Res} → DidObjects a b u v o at end k w (Ok (p, j)) → (h : Res) → g p.dump ≡ h → Did b c p.book p.dump end h (Ok x) → DidObjects a c u v o at end k (and_then w g) (Ok (x, j))
+      go (did_objects f s i _ _ l) (fails _ _) eq y = elim y [ ]
+      go (did_objects {bs = bs} {ms = ms} f s i _ _ l) (took cs ns _) eq (did f' i' j' k') =
+          let nil : ns ≡ [] = pl.is cs ns x.dump eq in
+          rw (eq, nil, append-nil ms) (did_objects {n = x.dump} (put_then f f' (sym (encode_append bs cs))) s (omega arith) j' k' l)
 
-    -- and then a part without marks
-    module _ (g : ℕ → Res) {c : List ℕ} {x : Part} (e : Did b c q n end (g n) x) where
-      pub objects_then : {m t : ℕ} → Plain (g n) → x ≡ Took m t → DidObjects a c u v o at end k (and_then w g) (many.Took m t j)
-      objects_then {m} {t} pl y = go was (g n) refl (rw y at e)
-        where
-          go : {w : Res} → DidObjects a b u v o at end k w (many.Took n q j) → (h : Res) → g n ≡ h → Did b c q n end h (Took m t) → DidObjects a c u v o at end k (and_then w g) (many.Took m t j)
-          go (did_objects f s i _ _ l) (fails _ _) eq x28 = elim x28 [ ]
-          go (did_objects {bs = bs} {ms = ms} f s i _ _ l) (took cs ns _) eq (did f' i' j' k') =
-              let nil : ns ≡ [] = pl.is cs ns m eq in
-              rw (eq, nil, append-nil ms) (did_objects {n = m} (put_then f f' (sym (encode_append bs cs))) s (omega arith) j' k' l)
+  pub objects_then_fell : (g : ℕ → Res) {c : List ℕ} {e : Refusal} → Did b c p.book p.dump end (g p.dump) (Err e) → DidObjects a c u v o at end k (and_then w g) (Err e)
+  objects_then_fell g {c} {e} f = go d (g p.dump) refl f
+    where
+      go : {w : Res} → DidObjects a b u v o at end k w (Ok (p, j)) → (h : Res) → g p.dump ≡ h → Did b c p.book p.dump end h (Err e) → DidObjects a c u v o at end k (and_then w g) (Err e)
+      go (did_objects f s i _ _ l) (took _ _ _) eq y = elim y [ ]
+      go (did_objects {bs = bs} {ms = ms} f s i _ _ l) (fails _ _) eq (fell e') = rw eq (fell_objects (e' ∙ put_length f) (put_length s))
 
-      pub objects_then_fell : {f : Fault} {p : ℕ} → x ≡ Fails f p → DidObjects a c u v o at end k (and_then w g) (many.Fails f p)
-      objects_then_fell {f} {p} y = go was (g n) refl (rw y at e)
-        where
-          go : {w : Res} → DidObjects a b u v o at end k w (many.Took n q j) → (h : Res) → g n ≡ h → Did b c q n end h (Fails f p) → DidObjects a c u v o at end k (and_then w g) (many.Fails f p)
-          go (did_objects f s i _ _ l) (took _ _ _) eq x29 = elim x29 [ ]
-          go (did_objects {bs = bs} {ms = ms} f s i _ _ l) (fails _ _) eq (fell e') = rw eq (fell_objects (e' ∙ put_length f) (put_length s))
+  -- and then a part that puts nothing
+  pub objects_ends : (g : ℕ → Res) {x : Cursor} → Plain (g p.dump) → Stays p.book p.dump end (g p.dump) (Ok x) → DidObjects a b u v o at end k (and_then w g) (Ok (x, j))
+  objects_ends g pl e = objects_then g pl (e.is b)
 
--- and then a part that puts nothing
-module _ {a b u v : List ℕ} {o at end k : ℕ} {w : Res} {r : Many} (d : DidObjects a b u v o at end k w r) {n q j : ℕ} (z : r ≡ many.Took n q j) (g : ℕ → Res) {x : Part} (e : Stays q n end (g n) x) where
-  pub objects_ends : {m t : ℕ} → Plain (g n) → x ≡ Took m t → DidObjects a b u v o at end k (and_then w g) (many.Took m t j)
-  objects_ends pl y = objects_then d z g (e.is b) pl y
-
-  pub objects_ends_fell : {f : Fault} {p : ℕ} → x ≡ Fails f p → DidObjects a b u v o at end k (and_then w g) (many.Fails f p)
-  objects_ends_fell y = objects_then_fell d z g (e.is b) y
+  pub objects_ends_fell : (g : ℕ → Res) {e : Refusal} → Stays p.book p.dump end (g p.dump) (Err e) → DidObjects a b u v o at end k (and_then w g) (Err e)
+  objects_ends_fell g e = objects_then_fell g (e.is b)
 
 -- a record in front
 pub objects_front : {a b c u v : List ℕ} {o q x e k : ℕ} {w : Res} {r : Many} (kind : ℕ) (p : List ℕ) → Put a b o q (record_bytes kind p) → DidObjects b c u v q x e k w r → DidObjects a c u v o x e k (also (rec kind p ∷ []) [] w) r
 objects_front kind p f (did_objects {bs = bs} {n = n} g s i j l m) = did_objects {n = n} (put_then f g (sym (encode_append (rec kind p ∷ []) bs ∙ rw (encode_one kind p) refl))) s i j l m
 objects_front kind p f (fell_objects e g) = fell_objects (e ∙ put_length f) g
-
-pub objects_open : {a b u v : List ℕ} {o at end k n q j : ℕ} {w : Res} → DidObjects a b u v o at end k w (many.Took n q j) → (bs : List Rec) × (ms : List ℕ) × (w ≡ took bs ms n) × Put a b o q (encode bs) × Put u v k j ms
-objects_open (did_objects {bs = bs} {ms = ms} f g _ _ _ _) = (bs, ms, refl, f, g)
 
 -- fill has no marks
 pub plain_then : {w : Res} {g : ℕ → Res} → Plain w → ((n : ℕ) → Plain (g n)) → Plain (and_then w g)

@@ -1,10 +1,8 @@
 -- A book's records as they lie in bytes, and what the code finds by going over them.
-use Rattle.std.specs.Prelude.{ℕ, ◌+◌, ◌≤◌, ◌<◌, ◌≡◌, List, [], ◌∷◌, ◌++◌, map, Bool, true, ◌&&◌, length, get_or, take, eqb}
+use Rattle.std.specs.Prelude.{ℕ, ◌+◌, ◌≤◌, ◌<◌, ◌≡◌, List, [], ◌∷◌, ◌++◌, map, Bool, true, ◌&&◌, length, get_or, take, eqb, Some, None, Option}
 use Rattle.std.proofs.Math.Seq.{slice}
 use Rattle.elements.specs.Choice.{pick}
 use Rattle.elements.specs.declared.fault.Fault.TheVariants.{AuthIdTwice}
-use Rattle.files.specs.declared.scan.Clash.{Clash}
-use Rattle.files.specs.declared.scan.Clash.TheVariants.{At, None}
 use Rattle.files.specs.declared.scan.Key.{Key}
 use Rattle.files.specs.declared.scan.Key.TheVariants.{Path, Own}
 use Rattle.rules.specs.Reading.{Rec}
@@ -29,19 +27,19 @@ pub record Holds (b : List ℕ) (i end : ℕ) : Type 0 where
   pub lies : Lies b i end rs
 
 -- 13: the place of the first object that repeats an own authId, by the objects' places
-abbrev pub clash_of : Clash → Check
-clash_of (At p) = wrong_at AuthIdTwice p
+abbrev pub clash_of : Option ℕ → Check
+clash_of (Some p) = wrong_at AuthIdTwice p
 clash_of None = fine
 
-pub record IdsTold (b marks : List ℕ) (i end : ℕ) (r : Clash) : Type 0 where
+pub record IdsTold (b marks : List ℕ) (i end : ℕ) (r : Option ℕ) : Type 0 where
   pub is : (rs : List Rec) → Lies b i end rs → repeated [] 0 marks rs ≡ clash_of r
 
--- the next record that names a path, at r; or there is none, and r is the end
-pub data NextName (b : List ℕ) (end : ℕ) (rs : List Rec) (r : ℕ) : Type 0 where
-  last : r ≡ end → names_of rs ≡ [] → NextName b end rs r
-  found : (n : Name) (left : List Rec) → names_of rs ≡ n ∷ names_of left → r < end → n.tag ≡ get_or b (r + 4) 0 → n.path ≡ slice (r + 6) (r + 2 + two b r) b → 6 ≤ 2 + two b r → Lies b (r + 2 + two b r) end left → NextName b end rs r
+-- the next record that names a path; or there is none
+pub data NextName (b : List ℕ) (end : ℕ) (rs : List Rec) : Option ℕ → Type 0 where
+  last : names_of rs ≡ [] → NextName b end rs None
+  found : {r : ℕ} (n : Name) (left : List Rec) → names_of rs ≡ n ∷ names_of left → r < end → n.tag ≡ get_or b (r + 4) 0 → n.path ≡ slice (r + 6) (r + 2 + two b r) b → 6 ≤ 2 + two b r → Lies b (r + 2 + two b r) end left → NextName b end rs (Some r)
 
-pub record NameTold (b : List ℕ) (i end r : ℕ) : Type 0 where
+pub record NameTold (b : List ℕ) (i end : ℕ) (r : Option ℕ) : Type 0 where
   pub is : (rs : List Rec) → Lies b i end rs → NextName b end rs r
 
 -- where the record at j ends
@@ -85,9 +83,14 @@ pub record MetTold (b : List ℕ) (x : Key) (i j p e : ℕ) (r : Bool) : Type 0 
 pub record RepeatTold (b : List ℕ) (x : Key) (i j : ℕ) (r : Bool) : Type 0 where
   pub is : (rs : List Rec) → Lies b i j rs → r ≡ (bears b x j && met (key_at b x j) (keys_of x rs))
 
--- `again`, unless it is 0; else `place`, if the record at j names a path that one of the records from i to j names; else 0
-pub record AgainTold (b : List ℕ) (i j place again r : ℕ) : Type 0 where
-  pub is : (rs : List Rec) → Lies b i j rs → r ≡ pick (eqb again 0) (pick (bears b Path j && met (key_at b Path j) (keys_of Path rs)) place 0) again
+-- what was told before, or else this
+abbrev pub or_else : Option ℕ → Option ℕ → Option ℕ
+or_else (Some p) r = Some p
+or_else None r = r
+
+-- `again`, if it is a place; else `place`, if the record at j names a path that one of the records from i to j names
+pub record AgainTold (b : List ℕ) (i j place : ℕ) (again r : Option ℕ) : Type 0 where
+  pub is : (rs : List Rec) → Lies b i j rs → r ≡ or_else again (pick (bears b Path j && met (key_at b Path j) (keys_of Path rs)) (Some place) None)
 
 -- the keys of the records at the first c places of an index
 abbrev pub placed_keys : List ℕ → List ℕ → ℕ → List (List ℕ)

@@ -1,8 +1,9 @@
-use elements::Fault;
+use objects::Cursor;
 
-// EF.OD's entries: the next place in the dump and in the book, how many objects, and the place of the first entry that names a path once more, 0 if none does; or a refusal and its place.
-#[derive(Clone, Copy)]
-pub enum Entries {
-    Took(usize, usize, usize, usize),
-    Fails(Fault, usize),
+// EF.OD's entries: how far reading has come, how many objects there are, and the place of the first entry that names a path once more.
+#[derive(Clone, Copy, Debug, PartialEq, Eq)]
+pub struct Entries {
+    pub at: Cursor,
+    pub objects: usize,
+    pub again: Option<usize>,
 }

@@ -10,64 +10,83 @@ use crate::answer::Entries;
 use crate::fills::{fill, goes_on};
 use crate::holder::{Holder, objects};
 use crate::scan::first_again;
-use elements::{Fault, Head, Run, header};
-use objects::{Due, Many, Part, ended, inner_run, put_behind, put_two, stands};
+use elements::{Fault, Header, Refusal, header};
+use objects::{Cursor, due, ended, inner_run, put_behind, put_two};
 use rules::{Need, Site};
 
-// "An EF.OD path holds one OCTET STRING of 1 to 64 bytes".
-fn named_path(s: &[u8], entry: u8, at: usize, a: usize, e: usize, out: &mut [u8], o: usize) -> Part
-    requires { InElement s.now at a e o }
-    ensures { Did out.old out.new o a e (named_path s.now entry at a e) result }
+// "An EF.OD path holds one OCTET STRING of 1 to 64 bytes": the element x at `at`.
+fn named_path(s: &[u8], entry: u8, x: Header, at: Cursor, out: &mut [u8]) -> Result<Cursor, Refusal>
+    requires { InElement s.now at.dump x.1 x.2 at.book }
+    ensures { Did out.old out.new at.book x.1 x.2 (named_path s.now entry at.dump x.1 x.2) result }
 {
-    if e - a < 1 {
-        return Part::Fails(Fault::BadSize, at);
+    match x.2 - x.1 {
+        1..=64 => Ok(Cursor {
+            dump: x.2,
+            book: put_behind(out, at.book, 0x0110, entry, 0, s, x.1, x.2),
+        }),
+        _ => Err(Refusal(Fault::BadSize, at.dump)),
     }
-    if 64 < e - a {
-        return Part::Fails(Fault::BadSize, at);
-    }
-    Part::Took(e, put_behind(out, o, 0x0110, entry, 0, s, a, e))
 }
 
-fn due_named(s: &[u8], entry: u8, end: usize, at: usize, out: &mut [u8], o: usize) -> Part
-    requires { InContainer s.now end at o }
-    ensures { Did out.old out.new o at end (component s.now 0x04 Required (named_path s.now entry) end at) result }
+fn due_named(s: &[u8], entry: u8, end: usize, at: Cursor, out: &mut [u8]) -> Result<Cursor, Refusal>
+    requires { InContainer s.now end at.dump at.book }
+    ensures { Did out.old out.new at.book at.dump end (component s.now 0x04 Required (named_path s.now entry) end at.dump) result }
 {
-    match stands(s, 0x04, Need::Required, end, at) {
-        Due::Not(f, p) => Part::Fails(f, p),
-        Due::Absent => Part::Took(at, o),
-        Due::Here(a, e) => named_path(s, entry, at, a, e, out, o),
-    }
+    due(s, 0x04, Need::Required, end, at, out, |x, inside, out| {
+        named_path(
+            s,
+            entry,
+            x,
+            Cursor {
+                dump: at.dump,
+                ..inside
+            },
+            out,
+        )
+    })
 }
 
 // A path "and nothing more".
-fn path_entry(s: &[u8], entry: u8, end: usize, at: usize, out: &mut [u8], o: usize) -> Part
-    requires { InContainer s.now end at o }
-    ensures { Did out.old out.new o at end ((component s.now 0x04 Required (named_path s.now entry) then ended s.now) end at) result }
+fn path_entry(
+    s: &[u8],
+    entry: u8,
+    end: usize,
+    at: Cursor,
+    out: &mut [u8],
+) -> Result<Cursor, Refusal>
+    requires { InContainer s.now end at.dump at.book }
+    ensures { Did out.old out.new at.book at.dump end ((component s.now 0x04 Required (named_path s.now entry) then ended s.now) end at.dump) result }
 {
-    match due_named(s, entry, end, at, out, o) {
-        Part::Fails(f, p) => Part::Fails(f, p),
-        Part::Took(n, q) => ended(s, end, n, q),
-    }
+    let at = due_named(s, entry, end, at, out)?;
+    ended(s, end, at)
 }
 
-// Objects in EF.OD itself: the element at `at`, its contents from a to e.
+// Objects in EF.OD itself: the element x at `at`.
 fn inline(
     s: &[u8],
     site: Site,
     entry: u8,
     k: usize,
-    at: usize,
-    a: usize,
-    e: usize,
+    x: Header,
+    at: Cursor,
     out: &mut [u8],
-    o: usize,
     marks: &mut [u32],
-) -> Many
-    requires { (k ≤ 128) × InElement s.now at a e o }
-    ensures { DidObjects out.old out.new marks.old marks.new o a e k (inlined s.now site entry k e a) result }
+) -> Result<(Cursor, usize), Refusal>
+    requires { (k ≤ 128) × InElement s.now at.dump x.1 x.2 at.book }
+    ensures { DidObjects out.old out.new marks.old marks.new at.book x.1 x.2 k (inlined s.now site entry k x.2 x.1) result }
 {
-    let q = put_two(out, o, 0x0110, entry, 1);
-    objects(s, Holder::List, site, entry, k, e, a, out, q, marks)
+    let book = put_two(out, at.book, 0x0110, entry, 1);
+    objects(
+        s,
+        Holder::List,
+        site,
+        entry,
+        k,
+        x.2,
+        Cursor { dump: x.1, book },
+        out,
+        marks,
+    )
 }
 
 // "Inside is a Path 30 or objects A0".
@@ -77,68 +96,62 @@ fn entry_inside(
     entry: u8,
     k: usize,
     end: usize,
-    at: usize,
+    at: Cursor,
     out: &mut [u8],
-    o: usize,
     marks: &mut [u32],
-) -> Many
-    requires { (k ≤ 128) × InContainer s.now end at o }
-    ensures { DidObjects out.old out.new marks.old marks.new o at end k (element s.now (entry_inside site s.now entry k) end at) result }
+) -> Result<(Cursor, usize), Refusal>
+    requires { (k ≤ 128) × InContainer s.now end at.dump at.book }
+    ensures { DidObjects out.old out.new marks.old marks.new at.book at.dump end k (element s.now (entry_inside site s.now entry k) end at.dump) result }
 {
-    match header(s, at, end) {
-        Head::No(f, p) => Many::Fails(f, p),
-        Head::At(t, a, e) => {
-            if t == 0x30 {
-                match path_entry(s, entry, e, a, out, o) {
-                    Part::Fails(f, p) => {
-                        return Many::Fails(f, p);
-                    }
-                    Part::Took(n, q) => {
-                        return Many::Took(n, q, k);
-                    }
-                }
-            }
-            if t == 0xa0 {
-                return inline(s, site, entry, k, at, a, e, out, o, marks);
-            }
-            Many::Fails(Fault::NotDue, at)
+    let x = header(s, at.dump, end)?;
+    match x.0 {
+        0x30 => {
+            let at = path_entry(
+                s,
+                entry,
+                x.2,
+                Cursor {
+                    dump: x.1,
+                    book: at.book,
+                },
+                out,
+            )?;
+            Ok((at, k))
         }
+        0xa0 => inline(s, site, entry, k, x, at, out, marks),
+        _ => Err(Refusal(Fault::NotDue, at.dump)),
     }
 }
 
-// An entry of a class: its contents from a to e.
+// An entry of a class: its contents, from a place to their end.
 fn known_entry(
     s: &[u8],
     site: Site,
     entry: u8,
     k: usize,
-    a: usize,
-    e: usize,
+    end: usize,
+    at: Cursor,
     out: &mut [u8],
-    o: usize,
     marks: &mut [u32],
-) -> Many
-    requires { (k ≤ 128) × InContainer s.now e a o }
-    ensures { DidObjects out.old out.new marks.old marks.new o a e k (known_entry site s.now entry k e a) result }
+) -> Result<(Cursor, usize), Refusal>
+    requires { (k ≤ 128) × InContainer s.now end at.dump at.book }
+    ensures { DidObjects out.old out.new marks.old marks.new at.book at.dump end k (known_entry site s.now entry k end at.dump) result }
 {
-    match entry_inside(s, site, entry, k, e, a, out, o, marks) {
-        Many::Fails(f, p) => Many::Fails(f, p),
-        Many::Took(n, q, j) => match ended(s, e, n, q) {
-            Part::Fails(f, p) => Many::Fails(f, p),
-            Part::Took(m, t) => Many::Took(m, t, j),
-        },
-    }
+    let (at, j) = entry_inside(s, site, entry, k, end, at, out, marks)?;
+    let at = ended(s, end, at)?;
+    Ok((at, j))
 }
 
 // "Any other context-specific tag": kept sealed.
-fn unknown_entry(s: &[u8], t: u8, at: usize, a: usize, e: usize, out: &mut [u8], o: usize) -> Part
-    requires { InElement s.now at a e o }
-    ensures { Did out.old out.new o a e (sealed s.now 0x0110 (t ∷ 2 ∷ []) t at a e) result }
+fn unknown_entry(s: &[u8], x: Header, at: Cursor, out: &mut [u8]) -> Result<Cursor, Refusal>
+    requires { InElement s.now at.dump x.1 x.2 at.book }
+    ensures { Did out.old out.new at.book x.1 x.2 (sealed s.now 0x0110 (x.0 ∷ 2 ∷ []) x.0 at.dump x.1 x.2) result }
 {
-    match inner_run(s, t, a, e) {
-        Run::Refused(f, p) => Part::Fails(f, p),
-        Run::Ends(_) => Part::Took(e, put_behind(out, o, 0x0110, t, 2, s, at, e)),
-    }
+    inner_run(s, x)?;
+    Ok(Cursor {
+        dump: x.2,
+        book: put_behind(out, at.book, 0x0110, x.0, 2, s, at.dump, x.2),
+    })
 }
 
 // "entries A0 to A8".
@@ -161,36 +174,39 @@ fn is_context(t: u8) -> bool
     }
 }
 
-// An entry with the tag t at `at`, its contents from a to e.
+// An entry, the element x at `at`.
 fn entry_body(
     s: &[u8],
     site: Site,
     k: usize,
-    t: u8,
-    at: usize,
-    a: usize,
-    e: usize,
+    x: Header,
+    at: Cursor,
     out: &mut [u8],
-    o: usize,
     marks: &mut [u32],
-) -> Many
-    requires { (k ≤ 128) × InElement s.now at a e o }
-    ensures { DidObjects out.old out.new marks.old marks.new o a e k (entry_body site s.now k t at a e) result }
+) -> Result<(Cursor, usize), Refusal>
+    requires { (k ≤ 128) × InElement s.now at.dump x.1 x.2 at.book }
+    ensures { DidObjects out.old out.new marks.old marks.new at.book x.1 x.2 k (entry_body site s.now k x.0 at.dump x.1 x.2) result }
 {
-    if is_known(t) {
-        return known_entry(s, site, t, k, a, e, out, o, marks);
+    if is_known(x.0) {
+        return known_entry(
+            s,
+            site,
+            x.0,
+            k,
+            x.2,
+            Cursor {
+                dump: x.1,
+                book: at.book,
+            },
+            out,
+            marks,
+        );
     }
-    if is_context(t) {
-        match unknown_entry(s, t, at, a, e, out, o) {
-            Part::Fails(f, p) => {
-                return Many::Fails(f, p);
-            }
-            Part::Took(n, q) => {
-                return Many::Took(n, q, k);
-            }
-        }
+    if is_context(x.0) {
+        let at = unknown_entry(s, x, at, out)?;
+        return Ok((at, k));
     }
-    Many::Fails(Fault::NotDue, at)
+    Err(Refusal(Fault::NotDue, at.dump))
 }
 
 // An entry of EF.OD, after k objects.
@@ -199,18 +215,15 @@ fn entry(
     site: Site,
     k: usize,
     end: usize,
-    at: usize,
+    at: Cursor,
     out: &mut [u8],
-    o: usize,
     marks: &mut [u32],
-) -> Many
-    requires { (k ≤ 128) × InContainer s.now end at o }
-    ensures { DidObjects out.old out.new marks.old marks.new o at end k (entry_at site s.now k end at) result × ForwardMany at result }
+) -> Result<(Cursor, usize), Refusal>
+    requires { (k ≤ 128) × InContainer s.now end at.dump at.book }
+    ensures { DidObjects out.old out.new marks.old marks.new at.book at.dump end k (entry_at site s.now k end at.dump) result × ForwardMany at.dump result }
 {
-    match header(s, at, end) {
-        Head::No(f, p) => Many::Fails(f, p),
-        Head::At(t, a, e) => entry_body(s, site, k, t, at, a, e, out, o, marks),
-    }
+    let x = header(s, at.dump, end)?;
+    entry_body(s, site, k, x, at, out, marks)
 }
 
 // EF.OD's entries, up to its fill.
@@ -218,55 +231,45 @@ fn entries(
     s: &[u8],
     site: Site,
     end: usize,
-    at: usize,
+    from: Cursor,
     out: &mut [u8],
-    o: usize,
     marks: &mut [u32],
-) -> Entries
-    requires { InContainer s.now end at o × (o + 3 ≤ 4 * at) × (131072 ≤ length out.old) }
-    ensures { DidEntries s.now out.old out.new marks.old marks.new o at end (entries_at site s.now end at) result }
+) -> Result<Entries, Refusal>
+    requires { InContainer s.now end from.dump from.book × (from.book + 3 ≤ 4 * from.dump) × (131072 ≤ length out.old) }
+    ensures { DidEntries s.now out.old out.new marks.old marks.new from.book from.dump end (entries_at site s.now end from.dump) result }
 {
     let mut k = 0;
-    let mut n = at;
-    let mut p = o;
-    let mut again = 0;
-    while goes_on(s, end, n) {
-        match entry(s, site, k, end, n, out, p, marks) {
-            Many::Fails(f, x) => {
-                return Entries::Fails(f, x);
-            }
-            Many::Took(m, t, j) => {
-                again = first_again(out, o, p, n, again);
-                k = j;
-                n = m;
-                p = t;
-            }
-        }
+    let mut at = from;
+    let mut again = None;
+    while goes_on(s, end, at.dump) {
+        let (next, j) = entry(s, site, k, end, at, out, marks)?;
+        again = first_again(out, from.book, at.book, at.dump, again);
+        k = j;
+        at = next;
     }
-    Entries::Took(n, p, k, again)
+    Ok(Entries {
+        at,
+        objects: k,
+        again,
+    })
 }
 
 // EF.OD's file.
 pub fn object_directory(
     s: &[u8],
     end: usize,
-    at: usize,
+    at: Cursor,
     out: &mut [u8],
-    o: usize,
     marks: &mut [u32],
-) -> Entries
-    requires { InContainer s.now end at o × (o + 3 ≤ 4 * at) × (131072 ≤ length out.old) }
-    ensures { DidEntries s.now out.old out.new marks.old marks.new o at end (od s.now end at) result }
+) -> Result<Entries, Refusal>
+    requires { InContainer s.now end at.dump at.book × (at.book + 3 ≤ 4 * at.dump) × (131072 ≤ length out.old) }
+    ensures { DidEntries s.now out.old out.new marks.old marks.new at.book at.dump end (od s.now end at.dump) result }
 {
     let site = Site {
         number: 0,
-        start: at,
+        start: at.dump,
     };
-    match entries(s, site, end, at, out, o, marks) {
-        Entries::Fails(f, p) => Entries::Fails(f, p),
-        Entries::Took(n, q, j, again) => match fill(s, 0x0107, end, n, out, q) {
-            Part::Fails(f, p) => Entries::Fails(f, p),
-            Part::Took(m, t) => Entries::Took(m, t, j, again),
-        },
-    }
+    let read = entries(s, site, end, at, out, marks)?;
+    let at = fill(s, 0x0107, end, read.at, out)?;
+    Ok(Entries { at, ..read })
 }

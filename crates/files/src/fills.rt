@@ -3,8 +3,8 @@ ghost use Rattle.rules.specs.Files.{to_fill, fill};
 ghost use Rattle.objects.specs.Did.{Did, InContainer};
 ghost use Rattle.files.specs.Filing.{Filled};
 
-use elements::Fault;
-use objects::{Part, put_fill};
+use elements::{Fault, Refusal};
+use objects::{Cursor, put_fill};
 
 // Whether an element starts at `at`: the file has not ended, and no fill begins.
 pub fn goes_on(s: &[u8], end: usize, at: usize) -> bool
@@ -26,28 +26,29 @@ fn differs(s: &[u8], b: u8, end: usize, at: usize) -> usize
     requires { (at ≤ end) × (end ≤ length s.now) }
     ensures { Filled s.now b end at result }
 {
-    let mut i = at;
-    while i < end {
+    for i in at..end {
         if s[i] != b {
             return i;
         }
-        i += 1;
     }
-    i
+    end
 }
 
 // "all bytes to the end must equal it": the fill from `at` on, if there is any.
-pub fn fill(s: &[u8], kind: u16, end: usize, at: usize, out: &mut [u8], o: usize) -> Part
-    requires { InContainer s.now end at o }
-    ensures { Did out.old out.new o at end (fill s.now kind end at) result }
+pub fn fill(s: &[u8], kind: u16, end: usize, at: Cursor, out: &mut [u8]) -> Result<Cursor, Refusal>
+    requires { InContainer s.now end at.dump at.book }
+    ensures { Did out.old out.new at.book at.dump end (fill s.now kind end at.dump) result }
 {
-    if end <= at {
-        return Part::Took(at, o);
+    if end <= at.dump {
+        return Ok(at);
     }
-    let b = s[at];
-    let i = differs(s, b, end, at);
+    let b = s[at.dump];
+    let i = differs(s, b, end, at.dump);
     if i < end {
-        return Part::Fails(Fault::FillDiffers, i);
+        return Err(Refusal(Fault::FillDiffers, i));
     }
-    Part::Took(end, put_fill(out, o, kind, b, (end - at) as u16))
+    Ok(Cursor {
+        dump: end,
+        book: put_fill(out, at.book, kind, b, (end - at.dump) as u16),
+    })
 }

@@ -3,12 +3,12 @@ ghost use Rattle.objects.specs.Did.{InContainer};
 ghost use Rattle.files.specs.Filing.{DidObjects, more_of, full_of, objects_in, opened_by, filled_up};
 
 use crate::fills::{fill, goes_on};
-use elements::Fault;
-use objects::{Many, Part, object_at, put_bare};
-use rules::{Site, store};
+use elements::{Fault, Refusal, put};
+use objects::{Cursor, object_at, put_bare};
+use rules::Site;
 
 // What holds objects: a list in EF.OD, a transparent file, a record of a record file.
-#[derive(Clone, Copy)]
+#[derive(Clone, Copy, Debug, PartialEq, Eq)]
 pub enum Holder {
     List,
     File,
@@ -22,8 +22,7 @@ fn more_at(s: &[u8], x: Holder, end: usize, at: usize) -> bool
 {
     match x {
         Holder::List => at < end,
-        Holder::File => goes_on(s, end, at),
-        Holder::Record => goes_on(s, end, at),
+        Holder::File | Holder::Record => goes_on(s, end, at),
     }
 }
 
@@ -32,8 +31,7 @@ fn is_full(x: Holder, k: usize, j: usize) -> bool
     ensures { result ≡ full_of x k j }
 {
     match x {
-        Holder::List => false,
-        Holder::File => false,
+        Holder::List | Holder::File => false,
         Holder::Record => k < j,
     }
 }
@@ -46,33 +44,24 @@ pub fn objects(
     entry: u8,
     k: usize,
     end: usize,
-    at: usize,
+    from: Cursor,
     out: &mut [u8],
-    o: usize,
     marks: &mut [u32],
-) -> Many
-    requires { (k ≤ 128) × InContainer s.now end at o }
-    ensures { DidObjects out.old out.new marks.old marks.new o at end k (objects_in s.now x site entry k end at) result }
+) -> Result<(Cursor, usize), Refusal>
+    requires { (k ≤ 128) × InContainer s.now end from.dump from.book }
+    ensures { DidObjects out.old out.new marks.old marks.new from.book from.dump end k (objects_in s.now x site entry k end from.dump) result }
 {
     let mut j = k;
-    let mut n = at;
-    let mut p = o;
-    while more_at(s, x, end, n) {
+    let mut at = from;
+    while more_at(s, x, end, at.dump) {
         if is_full(x, k, j) {
-            return Many::Fails(Fault::SecondObject, n);
+            return Err(Refusal(Fault::SecondObject, at.dump));
         }
-        match object_at(s, site, entry, j, end, n, out, p) {
-            Part::Fails(f, y) => {
-                return Many::Fails(f, y);
-            }
-            Part::Took(m, t) => {
-                j = store(marks, j, n as u32);
-                n = m;
-                p = t;
-            }
-        }
+        let next = object_at(s, site, entry, j, end, at, out)?;
+        j = put(marks, j, at.dump as u32);
+        at = next;
     }
-    Many::Took(n, p, j)
+    Ok((at, j))
 }
 
 // Objects behind the record that opens what holds them.
@@ -84,16 +73,28 @@ fn opened(
     entry: u8,
     k: usize,
     end: usize,
-    at: usize,
+    at: Cursor,
     out: &mut [u8],
-    o: usize,
     marks: &mut [u32],
-) -> Many
-    requires { (k ≤ 128) × (o + 4 ≤ 8 * at + 131072) × InContainer s.now end at o }
-    ensures { DidObjects out.old out.new marks.old marks.new o at end k (opened_by s.now x kind site entry k end at) result }
+) -> Result<(Cursor, usize), Refusal>
+    requires { (k ≤ 128) × (at.book + 4 ≤ 8 * at.dump + 131072) × InContainer s.now end at.dump at.book }
+    ensures { DidObjects out.old out.new marks.old marks.new at.book at.dump end k (opened_by s.now x kind site entry k end at.dump) result }
 {
-    let q = put_bare(out, o, kind);
-    objects(s, x, site, entry, k, end, at, out, q, marks)
+    let book = put_bare(out, at.book, kind);
+    objects(
+        s,
+        x,
+        site,
+        entry,
+        k,
+        end,
+        Cursor {
+            dump: at.dump,
+            book,
+        },
+        out,
+        marks,
+    )
 }
 
 // The same, and then fill: a transparent file, or a record of a record file.
@@ -105,19 +106,14 @@ pub fn held(
     entry: u8,
     k: usize,
     end: usize,
-    at: usize,
+    at: Cursor,
     out: &mut [u8],
-    o: usize,
     marks: &mut [u32],
-) -> Many
-    requires { (k ≤ 128) × (o + 4 ≤ 8 * at + 131072) × InContainer s.now end at o }
-    ensures { DidObjects out.old out.new marks.old marks.new o at end k (filled_up s.now x kind site entry k end at) result }
+) -> Result<(Cursor, usize), Refusal>
+    requires { (k ≤ 128) × (at.book + 4 ≤ 8 * at.dump + 131072) × InContainer s.now end at.dump at.book }
+    ensures { DidObjects out.old out.new marks.old marks.new at.book at.dump end k (filled_up s.now x kind site entry k end at.dump) result }
 {
-    match opened(s, x, kind, site, entry, k, end, at, out, o, marks) {
-        Many::Fails(f, p) => Many::Fails(f, p),
-        Many::Took(n, q, j) => match fill(s, 0x0107, end, n, out, q) {
-            Part::Fails(f, p) => Many::Fails(f, p),
-            Part::Took(m, t) => Many::Took(m, t, j),
-        },
-    }
+    let (at, j) = opened(s, x, kind, site, entry, k, end, at, out, marks)?;
+    let at = fill(s, 0x0107, end, at, out)?;
+    Ok((at, j))
 }

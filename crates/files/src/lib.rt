@@ -13,4 +13,4 @@ pub use cia::info;
 pub use entry::object_directory;
 pub use fills::{fill, goes_on};
 pub use holder::{Holder, held};
-pub use scan::{Clash, id_twice, next_name};
+pub use scan::{id_twice, next_name};

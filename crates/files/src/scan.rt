@@ -5,15 +5,8 @@ ghost use Rattle.files.specs.Scan.{Holds, AgainTold, IdsTold, NameTold, Whole, S
 
 use rules::{is_name, same_bytes, word};
 
-// Whether an own authId is repeated: the place of the object that does.
-#[derive(Clone, Copy)]
-pub enum Clash {
-    At(usize),
-    None,
-}
-
 // What a record may bear that must differ from record to record: the path that an entry names, an own authId.
-#[derive(Clone, Copy)]
+#[derive(Clone, Copy, Debug, PartialEq, Eq)]
 enum Key {
     Path,
     Own,
@@ -85,40 +78,36 @@ fn repeats(b: &[u8], x: Key, i: usize, j: usize) -> bool
     false
 }
 
-// The next record from i on that names a path, or `end`.
-pub fn next_name(b: &[u8], i: usize, end: usize) -> usize
+// The next record from i on that names a path.
+pub fn next_name(b: &[u8], i: usize, end: usize) -> Option<usize>
     requires { Holds b.now i end }
     ensures { NameTold b.now i end result }
 {
     let mut j = i;
     while j < end {
         if is_bearing(b, Key::Path, j) {
-            return j;
+            return Some(j);
         }
         j = after(b, j);
     }
-    j
+    None
 }
 
-// 12: `again`, if an entry before this one names a path once more; else `place`, if the record at j names a path that one of the records from i to j names; else 0.
-pub fn first_again(b: &[u8], i: usize, j: usize, place: usize, again: usize) -> usize
+// 12: `again`, if an entry before this one names a path once more; else `place`, if the record at j names a path that one of the records from i to j names.
+pub fn first_again(
+    b: &[u8],
+    i: usize,
+    j: usize,
+    place: usize,
+    again: Option<usize>,
+) -> Option<usize>
     requires { Holds b.now i j × Whole b.now j }
     ensures { AgainTold b.now i j place again result }
 {
-    if again != 0 {
-        return again;
+    match again {
+        Some(p) => Some(p),
+        None => repeats(b, Key::Path, i, j).then_some(place),
     }
-    if repeats(b, Key::Path, i, j) {
-        return place;
-    }
-    0
-}
-
-// A place as an index.
-fn wide(x: u32) -> usize
-    ensures { result ≡ x }
-{
-    x as usize
 }
 
 // The k-th place, 0 if there is none.
@@ -126,7 +115,7 @@ fn mark(marks: &[u32], k: usize) -> usize
     ensures { result ≡ get_or marks.now k 0 }
 {
     if k < marks.len() {
-        return wide(marks[k]);
+        return marks[k] as usize;
     }
     0
 }
@@ -136,12 +125,10 @@ fn met_own(b: &[u8], own: &[u32], c: usize, p: usize, e: usize) -> bool
     requires { Places b.now own.now c × Spans b.now p e }
     ensures { result ≡ met (slice p e b.now) (placed_keys b.now own.now c) }
 {
-    let mut k = 0;
-    while k < c {
-        if bears_it(b, Key::Own, wide(own[k]), p, e) {
+    for k in 0..c {
+        if bears_it(b, Key::Own, own[k] as usize, p, e) {
             return true;
         }
-        k += 1;
     }
     false
 }
@@ -179,7 +166,7 @@ fn noted(b: &[u8], own: &mut [u32], c: usize, j: usize) -> usize
 }
 
 // 13, with room for the index of own authIds.
-fn id_twice_by(b: &[u8], i: usize, end: usize, marks: &[u32], own: &mut [u32]) -> Clash
+fn id_twice_by(b: &[u8], i: usize, end: usize, marks: &[u32], own: &mut [u32]) -> Option<usize>
     requires { Holds b.now i end × (128 ≤ length own.old) }
     ensures { IdsTold b.now marks.now i end result }
 {
@@ -189,7 +176,7 @@ fn id_twice_by(b: &[u8], i: usize, end: usize, marks: &[u32], own: &mut [u32]) -
     let mut c = 0;
     while j < end {
         if repeats_own(b, i, j, own, c) {
-            return Clash::At(place);
+            return Some(place);
         }
         c = noted(b, own, c, j);
         if word(b, j + 2) == 0x0120 {
@@ -200,11 +187,11 @@ fn id_twice_by(b: &[u8], i: usize, end: usize, marks: &[u32], own: &mut [u32]) -
         }
         j = after(b, j);
     }
-    Clash::None
+    None
 }
 
 // 13: whether an own authId is repeated among the records from i to `end`, whose k-th object is at marks[k].
-pub fn id_twice(b: &[u8], i: usize, end: usize, marks: &[u32]) -> Clash
+pub fn id_twice(b: &[u8], i: usize, end: usize, marks: &[u32]) -> Option<usize>
     requires { Holds b.now i end }
     ensures { IdsTold b.now marks.now i end result }
 {

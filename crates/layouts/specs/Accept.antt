@@ -1,7 +1,5 @@
 -- The acceptance test: "is there an accepted dump that has this book?"
-use Rattle.std.specs.Prelude.{ℕ, ◌≤◌, ◌≡◌, refl, Bool, true, false, List, length, take}
-use Rattle.layouts.specs.declared.accept.Candidate.{Candidate}
-use Rattle.layouts.specs.declared.accept.Candidate.TheVariants.{Dump, None}
+use Rattle.std.specs.Prelude.{ℕ, ◌≤◌, ◌≡◌, refl, Bool, true, false, List, length, take, Some, None, Option}
 use Rattle.rules.specs.Files.{read_dump}
 use Rattle.rules.specs.Meaning.{AcceptedBook}
 use Rattle.rules.specs.Write.{Written, written, no_book, confirmed, write_dump}
@@ -16,8 +14,8 @@ pub record Confirms (b d : List ℕ) (r : Bool) : Type 0 where
   pub is : confirmed b d (read_dump d) ≡ confirming r d
 
 -- the book b was tried: its dump is the first n bytes of d, or there is none
-pub data Tried (b d : List ℕ) : Candidate → Type 0 where
-  holds : {n : ℕ} → n ≤ length d → write_dump b ≡ written (take n d) → Tried b d (Dump n)
+pub data Tried (b d : List ℕ) : (Option ℕ) → Type 0 where
+  holds : {n : ℕ} → n ≤ length d → write_dump b ≡ written (take n d) → Tried b d (Some n)
   none : write_dump b ≡ no_book → Tried b d None
 
 -- an accepted dump has the book, or none has it

@@ -1,13 +1,13 @@
 -- What the services answer, and what they leave in the lent slice.
-use Rattle.std.specs.Prelude.{ℕ, ◌≤◌, ◌≡◌, Bool, true, false, List, ◌++◌, length, drop, leb}
+use Rattle.std.specs.Prelude.{ℕ, ◌≤◌, ◌≡◌, Bool, true, false, List, ◌++◌, length, drop, leb, Ok}
 use Rattle.std.proofs.Common.{sym, ap, ◌∙◌, arith, length-append}
 use Rattle.elements.specs.declared.fault.Fault.TheVariants.{NoRoom, NoDump}
 use Rattle.elements.specs.Choice.{choose}
-use Rattle.rules.specs.declared.outcome.Outcome.{Outcome}
-use Rattle.rules.specs.declared.outcome.Outcome.TheVariants.{Accepted, Refused}
 use Rattle.rules.specs.Files.{Answer, accepted, refused, read_dump}
 use Rattle.rules.specs.Book.{encode}
 use Rattle.rules.specs.Write.{Written, written, no_book, write_dump}
+use Rattle.elements.specs.Answer.{Outcome}
+use Rattle.elements.specs.Answer as code
 
 -- an answer, and what the lent slice then holds
 pub record Served : Type 0 where
@@ -19,11 +19,11 @@ served r b = record { answer = r; lent = b }
 
 -- "A refusal writes nothing, an acceptance nothing past its length": these bytes into the slice that held `a`; 14 with their number if it is too short
 unfoldable pub giving : List ℕ → List ℕ → Served
-giving bs a = choose (leb (length bs) (length a)) (λ _. served (Accepted (length bs)) (bs ++ drop (length bs) a)) (λ _. served (Refused NoRoom (length bs)) a)
+giving bs a = choose (leb (length bs) (length a)) (λ _. served (Ok (length bs)) (bs ++ drop (length bs) a)) (λ _. served (code.refused NoRoom (length bs)) a)
 
 abbrev pub by_answer : Answer → List ℕ → Served
 by_answer (accepted rs) a = giving (encode rs) a
-by_answer (refused f p) a = served (Refused f p) a
+by_answer (refused f p) a = served (code.refused f p) a
 
 -- a dump read into a slice that held `a`
 unfoldable pub reading : List ℕ → List ℕ → Served
@@ -36,7 +36,7 @@ pub record ReadTold (s a b : List ℕ) (r : Outcome) : Type 0 where
 -- a book written into a slice that held `a`: 15, "no accepted dump has this book; place 0", before 14
 abbrev pub by_written : Written → List ℕ → Served
 by_written (written d) a = giving d a
-by_written no_book a = served (Refused NoDump 0) a
+by_written no_book a = served (code.refused NoDump 0) a
 
 unfoldable pub writing : List ℕ → List ℕ → Served
 writing b a = by_written (write_dump b) a
@@ -57,30 +57,30 @@ pub one_write : {b a c e : List ℕ} {q r : Outcome} → WriteTold b a c q → W
 one_write h g = let e = h.is ∙ sym g.is in (ap (λ (x : Served). x.answer) e, ap (λ (x : Served). x.lent) e)
 
 -- what was accepted has room
-pub giving_fits : (bs a : List ℕ) {b : List ℕ} {n : ℕ} → served (Accepted n) b ≡ giving bs a → n ≤ length b
+pub giving_fits : (bs a : List ℕ) {b : List ℕ} {n : ℕ} → served (Ok n) b ≡ giving bs a → n ≤ length b
 unfolding giving
 giving_fits bs a {b} {n} = go (leb (length bs) (length a))
   where
-    go : (t : Bool) → served (Accepted n) b ≡ choose t (λ _. served (Accepted (length bs)) (bs ++ drop (length bs) a)) (λ _. served (Refused NoRoom (length bs)) a) → n ≤ length b
+    go : (t : Bool) → served (Ok n) b ≡ choose t (λ _. served (Ok (length bs)) (bs ++ drop (length bs) a)) (λ _. served (code.refused NoRoom (length bs)) a) → n ≤ length b
     go true e =
-        let q : Accepted n ≡ Accepted (length bs) = ap (λ (x : Served). x.answer) e in
+        let q : Ok n ≡ Ok (length bs) = ap (λ (x : Served). x.answer) e in
         let x : n ≡ length bs = cc in
         let y : b ≡ bs ++ drop (length bs) a = ap (λ (x : Served). x.lent) e in
         rw y (omega (arith, length-append bs (drop (length bs) a)))
-    go false e = let q : Accepted n ≡ Refused NoRoom (length bs) = ap (λ (x : Served). x.answer) e in absurd (let z : ◌≡◌ {A = ℕ} 0 1 = cc in omega arith)
+    go false e = let q : Ok n ≡ code.refused NoRoom (length bs) = ap (λ (x : Served). x.answer) e in absurd (let z : ◌≡◌ {A = ℕ} 0 1 = cc in omega arith)
 
-pub read_fits : {s a b : List ℕ} {r : Outcome} {n : ℕ} → ReadTold s a b r → r ≡ Accepted n → n ≤ length b
+pub read_fits : {s a b : List ℕ} {r : Outcome} {n : ℕ} → ReadTold s a b r → r ≡ Ok n → n ≤ length b
 unfolding reading
 read_fits {s} {a} {b} {r} {n} h e = go (read_dump s) (rw e at h.is)
   where
-    go : (w : Answer) → served (Accepted n) b ≡ by_answer w a → n ≤ length b
+    go : (w : Answer) → served (Ok n) b ≡ by_answer w a → n ≤ length b
     go (accepted rs) q = giving_fits (encode rs) a q
-    go (refused f p) q = let w : Accepted n ≡ Refused f p = ap (λ (x : Served). x.answer) q in absurd (let z : ◌≡◌ {A = ℕ} 0 1 = cc in omega arith)
+    go (refused f p) q = let w : Ok n ≡ code.refused f p = ap (λ (x : Served). x.answer) q in absurd (let z : ◌≡◌ {A = ℕ} 0 1 = cc in omega arith)
 
-pub write_fits : {b a c : List ℕ} {r : Outcome} {n : ℕ} → WriteTold b a c r → r ≡ Accepted n → n ≤ length c
+pub write_fits : {b a c : List ℕ} {r : Outcome} {n : ℕ} → WriteTold b a c r → r ≡ Ok n → n ≤ length c
 unfolding writing
 write_fits {b} {a} {c} {r} {n} h e = go (write_dump b) (rw e at h.is)
   where
-    go : (w : Written) → served (Accepted n) c ≡ by_written w a → n ≤ length c
+    go : (w : Written) → served (Ok n) c ≡ by_written w a → n ≤ length c
     go (written d) q = giving_fits d a q
-    go no_book q = let w : Accepted n ≡ Refused NoDump 0 = ap (λ (x : Served). x.answer) q in absurd (let z : ◌≡◌ {A = ℕ} 0 1 = cc in omega arith)
+    go no_book q = let w : Ok n ≡ code.refused NoDump 0 = ap (λ (x : Served). x.answer) q in absurd (let z : ◌≡◌ {A = ℕ} 0 1 = cc in omega arith)

@@ -5,5 +5,4 @@ mod accept;
 mod service;
 
 pub use accept::is_book;
-pub use rules::Outcome;
 pub use service::{read, write};

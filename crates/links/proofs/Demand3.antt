@@ -5,8 +5,9 @@ use Rattle.std.specs.Prelude.{ℕ, ◌*◌, ◌<◌, ◌≤◌, ◌≡◌, ◌�
 use mathlib.Core.List.{List, ◌++◌, Memᴰ}
 use Rattle.elements.specs.declared.fault.Fault.TheVariants.{NoRoom}
 use Rattle.elements.specs.Lists.{Bytes}
-use Rattle.rules.specs.declared.outcome.Outcome.{Outcome}
-use Rattle.rules.specs.declared.outcome.Outcome.TheVariants.{Accepted, Refused}
+use Rattle.elements.specs.Answer.{Outcome}
+use Rattle.elements.specs.Answer as code
+use Rattle.std.specs.Prelude.{Ok}
 use Rattle.rules.specs.declared.table.Sort.TheVariants.{Identifier}
 use Rattle.rules.specs.Reading.{rec}
 use Rattle.rules.specs.Tables.{kind_of}
@@ -27,11 +28,11 @@ use Rattle.links.proofs.ToldLaws as told_laws
 module _ (x : Card) (meets : Meets x) (bytes : Bytes (dump_of x)) where
   -- with room for four numbers a row it accepts; without, it is 14 with their number, and the slice is what it was
   pub room : {a c : List ℕ} {r : Outcome} → ListTold (encode (book_of x)) a c r →
-      (4 * length (links (book_of x)) ≤ length a → r ≡ Accepted (4 * length (links (book_of x)))) × (length a < 4 * length (links (book_of x)) → (r ≡ Refused NoRoom (4 * length (links (book_of x)))) × (c ≡ a))
+      (4 * length (links (book_of x)) ≤ length a → r ≡ Ok (4 * length (links (book_of x)))) × (length a < 4 * length (links (book_of x)) → (r ≡ code.refused NoRoom (4 * length (links (book_of x)))) × (c ≡ a))
   room t = told.room x meets bytes t
 
   -- "The link list": the numbers of the lent slice, four by four, are the rows of the card's book, and past them it is what it was
-  pub lent : {a c : List ℕ} {n : ℕ} → ListTold (encode (book_of x)) a c (Accepted n) → (rows_in (take n c) ≡ links (book_of x)) × (n ≡ 4 * length (links (book_of x))) × (c ≡ take n c ++ drop n a)
+  pub lent : {a c : List ℕ} {n : ℕ} → ListTold (encode (book_of x)) a c (Ok n) → (rows_in (take n c) ≡ links (book_of x)) × (n ≡ 4 * length (links (book_of x))) × (c ≡ take n c ++ drop n a)
   lent t = told_laws.lent x meets bytes t
 
 -- "holds each link the objects state": the objects of a card's book are the card's, in turn, each with all its records
@@ -55,7 +56,7 @@ pub one_identifier : {held : Object} {o : card.Object} → WholeObject held o �
 one_identifier w = whole.one_held w
 
 -- on the list that was accepted
-module _ (x : Card) (meets : Meets x) (bytes : Bytes (dump_of x)) {a c : List ℕ} {n : ℕ} (t : ListTold (encode (book_of x)) a c (Accepted n)) where
+module _ (x : Card) (meets : Meets x) (bytes : Bytes (dump_of x)) {a c : List ℕ} {n : ℕ} (t : ListTold (encode (book_of x)) a c (Ok n)) where
   -- "with each object that answers it": a row with an answer stands on the list if and only if object i states that link at p, and object j bears the identifier
   pub answered : (link i p j : ℕ) → Memᴰ (row link i p (by j)) (rows_in (take n c)) ↔ ((id : List ℕ) × States (objects_of (book_of x)) link i p id × Bears (objects_of (book_of x)) link id j)
   answered link i p j = rw (lent x meets bytes t).0 (rows_answered (book_of x) link i p j)

@@ -1,4 +1,3 @@
-pub mod SortLaws
 pub mod ObjectLaws
 pub mod IndexLaws
 pub mod ChainLaws

@@ -13,7 +13,9 @@ use Rattle.rules.specs.Book.{Ends}
 use Rattle.rules.specs.BookLaws.{from_few}
 use Rattle.rules.specs.Blocks.{closing}
 use Rattle.links.specs.Links.{Object, held_from, states, answers, rows_of, record_rows, object_rows, links_from}
-use Rattle.links.specs.Finding.{Within, objects_at, held_at, NextObject, Indexed, RowsPut}
+use Rattle.links.specs.declared.index.Index.{Index}
+use Rattle.links.specs.Chains.{Indexed}
+use Rattle.links.specs.Finding.{Within, objects_at, held_at, ObjectAt, RowsPut}
 use Rattle.links.specs.FindingLaws.{within_end, held_first, some_end}
 use Rattle.links.proofs.RowLaws.{Partly, partly_none, partly_more, partly_all}
 
@@ -63,31 +65,27 @@ pub record Linking (b : List ℕ) (n w : ℕ) (a c : List ℕ) (i q k : ℕ) : T
   pub count : length (objects_at b i) + k ≡ n
   pub partly : Partly w a c 0 q (links_from (objects_at b 0) 0 (objects_at b 0)) (links_from (objects_at b 0) k (objects_at b i))
 
-pub linking_none : {b entries places : List ℕ} {n : ℕ} (w : ℕ) (a : List ℕ) → Indexed b entries places n → Within b 0 → Linking b n w a a 0 0 0
-linking_none w a x v = record { within = v; few = omega arith; count = omega arith; partly = partly_none w a 0 _ }
+pub linking_none : {b : List ℕ} {x : Index} (w : ℕ) (a : List ℕ) → Indexed b x → Within b 0 → Linking b x.n w a a 0 0 0
+linking_none w a g v = record { within = v; few = omega arith; count = omega (arith, g.entered.count); partly = partly_none w a 0 _ }
 
 module _ {b : List ℕ} {n w : ℕ} {a c : List ℕ} {i q k : ℕ} (p : Linking b n w a c i q k) where
   -- no object is left
-  ended : objects_at b i ≡ [] → RowsPut w a c 0 q (links_from (objects_at b 0) 0 (objects_at b 0))
+  pub linking_out : objects_at b i ≡ [] → RowsPut w a c 0 q (links_from (objects_at b 0) 0 (objects_at b 0))
   unfolding links_from
-  ended e = partly_all p.partly (rw e refl)
+  linking_out e = partly_all p.partly (rw e refl)
 
   pub linking_all : n ≤ k → RowsPut w a c 0 q (links_from (objects_at b 0) 0 (objects_at b 0))
-  linking_all h = ended (none (objects_at b i) (omega arith))
+  linking_all h = linking_out (none (objects_at b i) (omega arith))
     where
       none : (os : List Object) → length os ≡ 0 → os ≡ []
       none [] e = refl
       none (o ∷ os) e = absurd (omega arith)
 
-  module _ {j : ℕ} (x : NextObject b i j) where
-    pub linking_out : length b < j + 4 → RowsPut w a c 0 q (links_from (objects_at b 0) 0 (objects_at b 0))
-    linking_out h = ended (x.none h)
-
-    pub linking_next : {e entry r : ℕ} {d : List ℕ} → j + 4 ≤ length b → Ends b j e → entry ≡ get_or (slice (j + 4) e b) 0 0 → RowsPut w c d q r (object_rows (objects_at b 0) k entry (held_at b e)) → r ≤ q + 16777216 → Linking b n w a d e r (k + 1)
-    unfolding links_from
-    linking_next {e} h y g f m = record {
-      within = within_end p.within y;
-      few = omega arith;
-      count = let z = rw (x.some h e y) at p.count in omega arith;
-      partly = partly_more p.partly _ f (rw (add-one, x.some h e y, g) refl);
-    }
+  pub linking_next : {j e tag r : ℕ} {d : List ℕ} → ObjectAt b i j → Ends b j e → tag ≡ get_or (slice (j + 4) e b) 0 0 → RowsPut w c d q r (object_rows (objects_at b 0) k tag (held_at b e)) → r ≤ q + 16777216 → Linking b n w a d e r (k + 1)
+  unfolding links_from
+  linking_next {e = e} x y g f m = record {
+    within = within_end p.within y;
+    few = omega (arith, p.few);
+    count = let z = rw (x.is e y) at p.count in omega arith;
+    partly = partly_more p.partly _ f (rw (add-one, x.is e y, g) refl);
+  }

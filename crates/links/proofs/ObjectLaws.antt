@@ -5,6 +5,7 @@ use mathlib.Core.List.{List}
 use mathlib.Core.Bool.{Bool, true, false}
 use native.Mathlib.Omega.{arith}
 use lib.ListN.{length}
+use Rattle.std.specs.Prelude.{Some, None}
 use borrow.Author.Tests.{eq-eqb, ne_eqb}
 use Rattle.rules.specs.Files.{two}
 use Rattle.rules.specs.Book.{Ends}
@@ -20,17 +21,14 @@ pub record Seeking (b : List ℕ) (i j : ℕ) : Type 0 where
   pub within : Within b j
   pub same : objects_at b i ≡ objects_at b j
 
-pub seeking_none : {b : List ℕ} {i : ℕ} → Within b i → Seeking b i i
-seeking_none w = record { low = omega arith; within = w; same = refl }
-
 module _ {b : List ℕ} {i j : ℕ} (w : Seeking b i j) where
-  pub seeking_all : length b < j + 4 → NextObject b i j
+  pub seeking_all : length b < j + 4 → NextObject b i None
   unfolding objects_from
-  seeking_all h = record { low = w.low; high = w.within.high; none = λ _. w.same ∙ rw (from_few b j h) refl; some = λ l. absurd (omega arith) }
+  seeking_all h = w.same ∙ rw (from_few b j h) refl
 
   module _ {k : ℕ} (q : k ≡ two b (j + 2)) where
-    pub seeking_found : k ≡ 0x0120 → j + 4 ≤ length b → NextObject b i j
-    seeking_found u h = record { low = w.low; high = w.within.high; none = λ l. absurd (omega arith); some = λ _ e d. w.same ∙ rw (objects_first d, ← q, u) refl }
+    pub seeking_found : k ≡ 0x0120 → j + 4 ≤ length b → NextObject b i (Some j)
+    seeking_found u h = record { low = w.low; inside = h; is = λ e d. w.same ∙ rw (objects_first d, ← q, u) refl }
 
     pub seeking_next : {e : ℕ} → (k ≡ 0x0120 → ⊥) → Ends b j e → Seeking b i e
     seeking_next u d = record { low = omega arith; within = within_end w.within d; same = w.same ∙ rw (objects_first d, ← q, ne_eqb k 0x0120 u) refl }
@@ -40,27 +38,20 @@ pub record Searching (b : List ℕ) (k j : ℕ) (f : Found) : Type 0 where
   pub within : Within b j
   pub comes : f ≡ first_of k (held_at b j)
 
-pub searching_none : {b : List ℕ} {i : ℕ} (k : ℕ) → Within b i → Searching b k i (first_of k (held_at b i))
-searching_none k w = record { within = w; comes = refl }
-
 module _ {b : List ℕ} {k j : ℕ} {f : Found} (w : Searching b k j f) where
-  pub searching_all : length b < j + 4 → FoundAt b f j
+  pub searching_all : length b < j + 4 → FoundAt b f None
   unfolding held_from first_of
-  searching_all h = record { high = w.within.high; none = λ _. w.comes ∙ rw (from_few b j h) refl; some = λ l. absurd (omega arith) }
+  searching_all h = w.comes ∙ rw (from_few b j h) refl
 
   module _ {c : ℕ} (q : c ≡ two b (j + 2)) {t : Bool} (s : t ≡ closing c) where
-    pub searching_closed : t ≡ true → j + 4 ≤ length b → FoundAt b f (length b)
+    pub searching_closed : t ≡ true → j + 4 ≤ length b → FoundAt b f None
     unfolding first_of
-    searching_closed u h = record {
-      high = omega arith;
-      none = λ _. w.comes ∙ some_end b j h (λ e d. rw (held_first d, ← q, ← s, u) refl);
-      some = λ l. absurd (omega arith);
-    }
+    searching_closed u h = w.comes ∙ some_end b j h (λ e d. rw (held_first d, ← q, ← s, u) refl)
 
     module _ (u : t ≡ false) where
-      pub searching_found : c ≡ k → j + 4 ≤ length b → FoundAt b f j
+      pub searching_found : c ≡ k → j + 4 ≤ length b → FoundAt b f (Some j)
       unfolding first_of
-      searching_found z h = record { high = w.within.high; none = λ l. absurd (omega arith); some = λ _ e d. w.comes ∙ rw (held_first d, ← q, ← s, u, z, eq-eqb k k refl) refl }
+      searching_found z h = record { inside = h; is = λ e d. w.comes ∙ rw (held_first d, ← q, ← s, u, z, eq-eqb k k refl) refl }
 
       pub searching_next : {e : ℕ} → (c ≡ k → ⊥) → Ends b j e → Searching b k e f
       unfolding first_of

@@ -6,18 +6,19 @@ use mathlib.Core.Bool.{Bool, true, false}
 use native.Mathlib.Numerals.{add-one}
 use native.Mathlib.Omega.{arith}
 use lib.ListN.{length, get_or, drop, drop_of_length-le, length-append, length-drop}
-use lib.Seq.{slice, sets, length-sets, drop-nil, drop-append-le, drop-append-add}
+use lib.Seq.{slice, sets, drop-nil, drop-append-le, drop-append-add}
+use Rattle.std.specs.Prelude.{Option, Some, None}
+use Rattle.std.specs.Option.{unwrap_or}
 use Rattle.elements.specs.Put.{Put}
 use Rattle.elements.specs.PutLaws.{put_put}
 use Rattle.elements.specs.Choice.{choose}
 use Rattle.elements.specs.ChoiceLaws.{by_less}
-use Rattle.rules.specs.Files.{equal}
-use Rattle.rules.specs.Book.{Ends}
-use Rattle.links.specs.Links.{answering, bears, answers, Reply, by, missing, number, Row, row, rows_of, listed}
-use Rattle.links.specs.Finding.{objects_at, Indexed, AnswerTold, RowPut, RowsPut}
+use Rattle.links.specs.Links.{bears, answers, Reply, by, missing, number, Row, row, rows_of, listed}
+use Rattle.links.specs.declared.index.Index.{Index}
+use Rattle.links.specs.Finding.{objects_at, entry_at, AnswerTold, RowsPut}
 use Rattle.links.specs.FindingLaws.{at_number}
 use Rattle.links.specs.Told.{four_each}
-use Rattle.links.specs.Chains.{key_of, key_at, Key, Leads, Chained}
+use Rattle.links.specs.Chains.{key_of, key_at, Key, Leads, Indexed}
 use Rattle.links.proofs.LeadLaws.{answers_lead}
 
 -- four numbers put one after the other
@@ -25,13 +26,13 @@ pub put_four : {a b c d e : List ℕ} {o p q r s w x y z : ℕ} → Put a b o p 
 put_four f g h k = put_put (put_put (put_put f g) h) k
 
 -- a row before the window is not put; one from there on is, by its four numbers
-pub row_before : (a : List ℕ) {w o : ℕ} (link i p j : ℕ) → o < w → RowPut w a a o (o + 1) link i p j
+pub row_before : (a : List ℕ) {w o : ℕ} (r : Row) → o < w → RowsPut w a a o (o + 1) (r ∷ [])
 unfolding listed
-row_before a {w} {o} link i p j h = record { next = refl; is = λ r e. record { at = refl; to = let z : w - o ≡ suc (w - o - 1) = omega arith in rw (z, drop-nil (w - o - 1)) refl } }
+row_before a {w} {o} r h = record { at = refl; to = let z : w - o ≡ suc (w - o - 1) = omega arith in rw (z, drop-nil (w - o - 1)) refl }
 
-pub row_in : {a b : List ℕ} {w o s link i p j : ℕ} → w ≤ o → Put a b (4 * (o - w)) s (link ∷ i ∷ p ∷ j ∷ []) → RowPut w a b o (o + 1) link i p j
+pub row_in : {a b : List ℕ} {w o s l link i p j : ℕ} (q : Reply) → w ≤ o → Put a b (4 * (o - w)) s (l ∷ i ∷ p ∷ j ∷ []) → l ≡ link → j ≡ number q → RowsPut w a b o (o + 1) (row link i p q ∷ [])
 unfolding listed
-row_in {w = w} {o = o} l f = record { next = refl; is = λ r q. record { at = refl; to = let z : w - o ≡ 0 = omega arith in rw (z, ← q) f.to } }
+row_in {w = w} {o = o} q h f u e = record { at = refl; to = let z : w - o ≡ 0 = omega arith in rw (z, ← u, ← e) f.to }
 
 -- numbers of rows, list by list
 listed_append : (xs ys : List Row) → listed (xs ++ ys) ≡ listed xs ++ listed ys
@@ -65,12 +66,6 @@ rows_then {w} {a} {c} {d} {o} {q} {r} {xs} {ys} f g = record { at = omega (arith
         let y : Put c d (4 * (q - w)) (4 * (q - w) + length (listed ys)) (listed ys) = record { at = refl; to = rw z at g.to } in
         rw (drop-append-le (w - o) xs ys (omega (arith, f.at)), listed_append (drop (w - o) xs) ys) (put_put x y).to
 
-rows_length : {w : ℕ} {a c : List ℕ} {o r : ℕ} {xs : List Row} → RowsPut w a c o r xs → length c ≡ length a
-rows_length {w} {a} {o = o} {xs = xs} f = rw f.to (length-sets a (4 * (o - w)) (listed (drop (w - o) xs)))
-
-pub row_length : {w : ℕ} {a c : List ℕ} {o r link i p j : ℕ} → RowPut w a c o r link i p j → (q : Reply) → j ≡ number q → length c ≡ length a
-row_length f q e = rows_length (f.is q e)
-
 -- of all rows, those before what is left are put
 pub record Partly (w : ℕ) (a c : List ℕ) (o q : ℕ) (all left : List Row) : Type 0 where
   pub done : List Row
@@ -87,20 +82,6 @@ module _ {w : ℕ} {a c : List ℕ} {o q : ℕ} {all left : List Row} (p : Partl
   pub partly_all : left ≡ [] → RowsPut w a c o q all
   partly_all e = let z : p.done ≡ all = rw (e, append-nil) at p.is in rw z at p.put
 
-  pub partly_length : length c ≡ length a
-  partly_length = rows_length p.put
-
--- whether an indexed object answers: it is of another class, it has no identifier, its identifier decides
-module _ (b : List ℕ) (p e link entry place : ℕ) {t : Bool} (a : t ≡ answering link entry) where
-  pub answer_other : t ≡ false → AnswerTold b p e link entry place false
-  answer_other u = record { is = λ f w. rw (← a, u) refl }
-
-  pub answer_none : t ≡ true → length b < place + 4 → AnswerTold b p e link entry place false
-  answer_none u h = record { is = λ f w. rw (← a, u, w.none h) refl }
-
-  pub answer_same : {m : ℕ} {r : Bool} → t ≡ true → place + 4 ≤ length b → Ends b place m → r ≡ equal (slice (p + 4) e b) (slice (place + 4) m b) → AnswerTold b p e link entry place r
-  answer_same {m} u h d s = record { is = λ f w. rw (← a, u, w.some h m d) s }
-
 -- the objects that answer, from the j-th on; rows of them
 abbrev answers_from : List ℕ → ℕ → ℕ → ℕ → ℕ → List ℕ
 answers_from b p e link j = answers link (slice (p + 4) e b) j (drop j (objects_at b 0))
@@ -108,55 +89,55 @@ answers_from b p e link j = answers link (slice (p + 4) e b) j (drop j (objects_
 abbrev by_rows : ℕ → ℕ → ℕ → List ℕ → List Row
 by_rows link i p js = map (row link i p) (map by js)
 
--- the loop of `put_answers`: the rows of the answers before object j are put, and j is in the identifier's chain
-pub record Answering (b : List ℕ) (p e link i n w : ℕ) (a c : List ℕ) (o j q : ℕ) : Type 0 where
-  pub few : q ≤ o + j
+-- the loop of `put_answers`: the rows of the answers before object j are put, and j, if it is one of the n, is the next in the identifier's chain
+pub record Answering (b : List ℕ) (p e link i n w : ℕ) (a c : List ℕ) (o : ℕ) (next : Option ℕ) (q : ℕ) : Type 0 where
+  pub few : q ≤ o + unwrap_or next n
   pub most : q ≤ o + n
-  pub here : j < n → key_at b j ≡ key_of (slice (p + 4) e b)
-  pub partly : Partly w a c o q (by_rows link i p (answers_from b p e link 0)) (by_rows link i p (answers_from b p e link j))
+  pub here : (j : ℕ) → next ≡ Some j → (j < n) × (key_at b j ≡ key_of (slice (p + 4) e b))
+  pub partly : Partly w a c o q (by_rows link i p (answers_from b p e link 0)) (by_rows link i p (answers_from b p e link (unwrap_or next n)))
 
-module _ {b chains : List ℕ} {p e h n : ℕ} (k : Key (slice (p + 4) e b) h) (g : Chained b chains n 0) where
-  pub answering_none : (w : ℕ) (a : List ℕ) (link i o : ℕ) → Answering b p e link i n w a a o (get_or chains h 0) o
+module _ {b : List ℕ} {x : Index} {p e h : ℕ} (k : Key (slice (p + 4) e b) h) (g : Indexed b x) where
+  pub answering_none : (w : ℕ) (a : List ℕ) (link i o : ℕ) → Answering b p e link i x.n w a a o (get_or x.firsts h None) o
   answering_none w a link i o = record { few = omega arith; most = omega arith; here = lead.here; partly = rw (answers_lead link (slice (p + 4) e b) lead) (partly_none w a o _) }
     where
-      lead : Leads b n (key_of (slice (p + 4) e b)) 0 (get_or chains h 0)
-      lead = rw k.is (g.first h k.small)
+      lead : Leads b x.n (key_of (slice (p + 4) e b)) 0 (get_or x.firsts h None)
+      lead = rw k.is (g.chained.first h k.small)
 
-  module _ {link i w : ℕ} {a c : List ℕ} {o j q : ℕ} (z : Answering b p e link i n w a c o j q) (l : j < n) where
+  module _ {link i w : ℕ} {a c : List ℕ} {o q j : ℕ} {next : Option ℕ} (z : Answering b p e link i x.n w a c o next q) (f : next ≡ Some j) where
+    pub answering_fits : j < 128
+    answering_fits = omega (arith, (z.here j f).0, g.entered.few)
+
     -- the next one in the chain
-    lead : Leads b n (key_of (slice (p + 4) e b)) (j + 1) (get_or chains (256 + j) 0)
-    lead = rw k.is (g.next j h (omega arith) l k.small (z.here l ∙ k.is))
-
-    pub answering_less : n - get_or chains (256 + j) 0 < n - j
-    answering_less = omega (arith, lead.low)
+    lead : Leads b x.n (key_of (slice (p + 4) e b)) (j + 1) (entry_at x.entries j).next
+    lead = rw k.is (g.chained.next j h (omega arith) (z.here j f).0 k.small ((z.here j f).1 ∙ k.is))
 
     -- the j-th object is told
-    module _ {entries places : List ℕ} {t : Bool} (x : Indexed b entries places n) (v : AnswerTold b p e link (get_or entries j 0) (get_or places j 0) t) where
-      first : answers_from b p e link j ≡ choose t (λ _. j ∷ answers_from b p e link (get_or chains (256 + j) 0)) (λ _. answers_from b p e link (get_or chains (256 + j) 0))
+    module _ {t : Bool} (v : AnswerTold b p e link (entry_at x.entries j).tag (entry_at x.entries j).id t) where
+      first : answers_from b p e link (unwrap_or next x.n) ≡ choose t (λ _. j ∷ answers_from b p e link (unwrap_or (entry_at x.entries j).next x.n)) (λ _. answers_from b p e link (unwrap_or (entry_at x.entries j).next x.n))
       unfolding answers bears
       first =
-          let m = at_number (objects_at b 0) j (omega arith) in
-          let y : m.0.entry ≡ get_or entries j 0 = rw m.1 at (x.tagged.are j l) in
-          rw (← answers_lead link (slice (p + 4) e b) lead, add-one, m.2, (rw (← y) at v).is _ (rw m.1 at (x.placed.are j l))) refl
+          let l = (z.here j f).0 in
+          let m = at_number (objects_at b 0) j (omega (arith, g.entered.count)) in
+          let y : m.0.entry ≡ (entry_at x.entries j).tag = rw m.1 at (g.entered.entries.tags j l) in
+          rw (f, ← answers_lead link (slice (p + 4) e b) lead, add-one, m.2, (rw (← y) at v).is _ (rw m.1 at (g.entered.entries.ids j l))) refl
 
-      pub answering_more : {d : List ℕ} {r : ℕ} → t ≡ true → RowPut w c d q r link i p j → Answering b p e link i n w a d o (get_or chains (256 + j) 0) r
-      answering_more u f =
-          let g = f.is (by j) refl in
+      pub answering_more : {d : List ℕ} {r : ℕ} → t ≡ true → RowsPut w c d q r (row link i p (by j) ∷ []) → Answering b p e link i x.n w a d o (entry_at x.entries j).next r
+      answering_more u y =
           record {
-            few = omega (arith, lead.low, g.at);
-            most = omega (arith, g.at);
+            few = let l : q ≤ o + j = rw f at z.few in omega (arith, lead.low, y.at);
+            most = let l : q ≤ o + j = rw f at z.few in omega (arith, y.at, (z.here j f).0);
             here = lead.here;
-            partly = partly_more z.partly {xs = row link i p (by j) ∷ []} _ g (rw (first, u) refl);
+            partly = partly_more z.partly {xs = row link i p (by j) ∷ []} _ y (rw (first, u) refl);
           }
 
-      pub answering_same : t ≡ false → Answering b p e link i n w a c o (get_or chains (256 + j) 0) q
-      answering_same u = record { few = omega (arith, lead.low); most = z.most; here = lead.here; partly = rw (first, u) at z.partly }
+      pub answering_same : t ≡ false → Answering b p e link i x.n w a c o (entry_at x.entries j).next q
+      answering_same u = record { few = let l : q ≤ o + j = rw f at z.few in omega (arith, lead.low); most = z.most; here = lead.here; partly = rw (first, u) at z.partly }
 
 -- all objects are told
-module _ {b entries places : List ℕ} {p e link i n w : ℕ} {a c : List ℕ} {o j q : ℕ} (x : Indexed b entries places n) (z : Answering b p e link i n w a c o j q) (h : n ≤ j) where
+module _ {b : List ℕ} {x : Index} {p e link i w : ℕ} {a c : List ℕ} {o q : ℕ} {next : Option ℕ} (g : Indexed b x) (z : Answering b p e link i x.n w a c o next q) (h : next ≡ None) where
   all_told : RowsPut w a c o q (by_rows link i p (answers_from b p e link 0))
   unfolding answers
-  all_told = partly_all z.partly (rw (drop_of_length-le (objects_at b 0) {i = j} (omega arith)) refl)
+  all_told = let n : unwrap_or next x.n ≡ x.n = rw h refl in partly_all z.partly (rw (drop_of_length-le (objects_at b 0) {i = unwrap_or next x.n} (omega (arith, g.entered.count))) refl)
 
   pub answering_some : (q ≡ o → ⊥) → RowsPut w a c o q (rows_of link i p (answers_from b p e link 0))
   answering_some u = go (answers_from b p e link 0) all_told
@@ -165,9 +146,9 @@ module _ {b entries places : List ℕ} {p e link i n w : ℕ} {a c : List ℕ} {
       go [] f = absurd (u (omega (arith, f.at)))
       go (k ∷ js) f = f
 
-  pub answering_missing : {d : List ℕ} {r : ℕ} → q ≡ o → RowPut w c d o r link i p 4294967295 → RowsPut w a d o r (rows_of link i p (answers_from b p e link 0))
+  pub answering_missing : {d : List ℕ} {r : ℕ} → q ≡ o → RowsPut w c d o r (row link i p missing ∷ []) → RowsPut w a d o r (rows_of link i p (answers_from b p e link 0))
   answering_missing {d} {r} u g = go (answers_from b p e link 0) all_told
     where
       go : (js : List ℕ) → RowsPut w a c o q (by_rows link i p js) → RowsPut w a d o r (rows_of link i p js)
-      go [] f = rows_then (rw u at f) (g.is missing refl)
+      go [] f = rows_then (rw u at f) g
       go (k ∷ js) f = absurd (omega (arith, f.at))

@@ -9,47 +9,45 @@ use borrow.Author.Tests.{le-leb, lt-leb}
 use Rattle.elements.specs.Lists.{Bytes}
 use Rattle.elements.specs.Put.{Put}
 use Rattle.elements.specs.declared.fault.Fault.TheVariants.{NoDump, NotThere}
-use Rattle.rules.specs.declared.outcome.Outcome.{Outcome}
-use Rattle.rules.specs.declared.outcome.Outcome.TheVariants.{Refused}
+use Rattle.elements.specs.Answer.{Outcome}
+use Rattle.elements.specs.Answer as code
 use Rattle.rules.specs.Book.{records}
 use Rattle.rules.specs.Write.{write_dump}
 use Rattle.layouts.specs.Service.{served, giving, Gives}
 use Rattle.layouts.specs.Accept.{BookTold}
-use Rattle.links.specs.declared.fields.Place.{Place}
-use Rattle.links.specs.declared.fields.Place.TheVariants as place
 use Rattle.links.specs.Links.{links, links_from, listed, object_at, field_in, field_of}
 use Rattle.links.specs.Finding.{objects_at, RowsPut}
 use Rattle.links.specs.Told.{four_each}
 use Rattle.links.specs.FindingLaws.{from_start, rows_links}
 use Rattle.links.specs.BookFacts.{if_book_lem, if_none}
-use Rattle.links.specs.Serving.{if_book, listing, ListTold, place_of, placing, PlaceTold}
+use Rattle.links.specs.Serving.{Sought, if_book, listing, ListTold, place_of, placing, PlaceTold}
 
 -- the book is one, or none
 module _ {b : List ℕ} {t : Bool} (k : BookTold b t) where
-  written_as : t ≡ true → (i l : ℕ) → if_book (write_dump b) (place_of (field_of i l (records b))) (place.Refused NoDump 0) ≡ place_of (field_of i l (records b))
-  written_as e i l = if_book_lem k (place_of (field_of i l (records b))) (place.Refused NoDump 0) e
+  written_as : t ≡ true → (i l : ℕ) → if_book (write_dump b) (place_of (field_of i l (records b))) (code.refused NoDump 0) ≡ place_of (field_of i l (records b))
+  written_as e i l = if_book_lem k (place_of (field_of i l (records b))) (code.refused NoDump 0) e
 
   pub list_yes : {a c : List ℕ} {r : Outcome} → t ≡ true → Gives (listed (links (records b))) a c r → ListTold b a c r
   unfolding listing
-  list_yes {a} e g = record { is = rw (if_book_lem k (giving (listed (links (records b))) a) (served (Refused NoDump 0) a) e) g.is }
+  list_yes {a} e g = record { is = rw (if_book_lem k (giving (listed (links (records b))) a) (served (code.refused NoDump 0) a) e) g.is }
 
-  pub list_no : {a : List ℕ} → t ≡ false → Bytes b → ListTold b a a (Refused NoDump 0)
+  pub list_no : {a : List ℕ} → t ≡ false → Bytes b → ListTold b a a (code.refused NoDump 0)
   unfolding listing
-  list_no {a} e h = record { is = sym (if_none k (giving (listed (links (records b))) a) (served (Refused NoDump 0) a) e h) }
+  list_no {a} e h = record { is = sym (if_none k (giving (listed (links (records b))) a) (served (code.refused NoDump 0) a) e h) }
 
-  pub place_no : (i l : ℕ) → t ≡ false → Bytes b → PlaceTold b i l (place.Refused NoDump 0)
+  pub place_no : (i l : ℕ) → t ≡ false → Bytes b → PlaceTold b i l (code.refused NoDump 0)
   unfolding placing
-  place_no i l e h = record { is = sym (if_none k (place_of (field_of i l (records b))) (place.Refused NoDump 0) e h) }
+  place_no i l e h = record { is = sym (if_none k (place_of (field_of i l (records b))) (code.refused NoDump 0) e h) }
 
-  pub place_low : (i l : ℕ) → t ≡ true → l < 0x0121 → PlaceTold b i l (place.Refused NotThere 0)
+  pub place_low : (i l : ℕ) → t ≡ true → l < 0x0121 → PlaceTold b i l (code.refused NotThere 0)
   unfolding placing field_of
   place_low i l e h = record { is = rw (written_as e i l, lt-leb 0x0121 l h) refl }
 
-  pub place_high : (i l : ℕ) → t ≡ true → 0x0121 ≤ l → 0x01ff < l → PlaceTold b i l (place.Refused NotThere 0)
+  pub place_high : (i l : ℕ) → t ≡ true → 0x0121 ≤ l → 0x01ff < l → PlaceTold b i l (code.refused NotThere 0)
   unfolding placing field_of
   place_high i l e h g = record { is = rw (written_as e i l, le-leb 0x0121 l h, lt-leb l 0x01ff g) refl }
 
-  pub place_by : (i l : ℕ) {r : Place} → t ≡ true → 0x0121 ≤ l → l ≤ 0x01ff → r ≡ place_of (field_in l (object_at (objects_at b 0) i)) → PlaceTold b i l r
+  pub place_by : (i l : ℕ) {r : Sought} → t ≡ true → 0x0121 ≤ l → l ≤ 0x01ff → r ≡ place_of (field_in l (object_at (objects_at b 0) i)) → PlaceTold b i l r
   unfolding placing field_of
   place_by i l e h g q = record { is = q ∙ rw (written_as e i l, le-leb 0x0121 l h, le-leb l 0x01ff g, from_start b) refl }
 

@@ -4,7 +4,7 @@ use Rattle.std.proofs.Math.Path.{refl}
 use Rattle.std.proofs.Common.{◌∙◌, arith}
 use mathlib.Core.List.{List, ◌++◌, Memᴰ}
 use Rattle.elements.specs.Lists.{Bytes}
-use Rattle.rules.specs.declared.outcome.Outcome.TheVariants.{Accepted}
+use Rattle.std.specs.Prelude.{Ok}
 use Rattle.rules.specs.Reading.{Rec}
 use Rattle.rules.specs.Book.{encode}
 use Rattle.cards.specs.Card.{Card, Meets, dump_of, book_of}
@@ -27,7 +27,7 @@ replies_below rs few r m = go r.reply refl
 
 -- what list answered of the book of a card of document 01
 module _ (x : Card) (meets : Meets x) (bytes : Bytes (dump_of x)) where
-  pub lent : {a c : List ℕ} {n : ℕ} → ListTold (encode (book_of x)) a c (Accepted n) → (rows_in (take n c) ≡ links (book_of x)) × (n ≡ 4 * length (links (book_of x))) × (c ≡ take n c ++ drop n a)
+  pub lent : {a c : List ℕ} {n : ℕ} → ListTold (encode (book_of x)) a c (Ok n) → (rows_in (take n c) ≡ links (book_of x)) × (n ≡ 4 * length (links (book_of x))) × (c ≡ take n c ++ drop n a)
   lent {a} {c} {n} t =
       let rows = listed (links (book_of x)) in
       let h = handed rows a c (gives x meets bytes t) in

@@ -13,13 +13,12 @@ use Rattle.rules.specs.Files.{two}
 use Rattle.rules.specs.Book.{records, records_from, Ends}
 use Rattle.rules.specs.BookLaws.{from_few}
 use Rattle.rules.specs.Write.{Written, written, no_book, write_dump}
-use Rattle.links.specs.declared.fields.Place.{Place}
-use Rattle.links.specs.declared.fields.Place.TheVariants as place
 use Rattle.rules.specs.Blocks.{closing}
+use Rattle.elements.specs.Answer as code
 use Rattle.links.specs.Links.{Held, held_from, objects_from, Found, none, found, first_of, object_at, field_in, field_of}
 use Rattle.links.specs.Finding.{objects_at, held_at, object_there, held_there}
 use Rattle.links.specs.FindingLaws.{from_start, objects_first, held_first, some_end}
-use Rattle.links.specs.Serving.{if_book, place_of, placing, PlaceTold, pay_of, handing, FieldTold}
+use Rattle.links.specs.Serving.{Sought, at_place, same_place, if_book, place_of, placing, PlaceTold, pay_of, handing, FieldTold}
 
 -- every record is in its place
 pub record InPlace (b : List ℕ) (h : Held) : Type 0 where
@@ -78,18 +77,17 @@ unfolding field_of
 book_placed b i k = placed_test (leb 0x0121 k && leb k 0x01ff) (rw (from_start b) at (field_placed b k 0 i)) nowhere
 
 -- where a field is told to be, there it is
-module _ {b : List ℕ} {i k : ℕ} {r : Place} (t : PlaceTold b i k r) {p n : ℕ} (e : r ≡ place.At p n) where
+module _ {b : List ℕ} {i k : ℕ} {r : Sought} (t : PlaceTold b i k r) {p n : ℕ} (e : r ≡ at_place p n) where
   handed : (p + n ≤ length b) × (slice p (p + n) b ≡ handing b i k)
   unfolding placing handing
   handed = go (write_dump b) (book_placed b i k) (sym e ∙ t.is)
     where
-      go : (v : Written) {f : Found} → Placed b f → place.At p n ≡ if_book v (place_of f) (place.Refused NoDump 0) → (p + n ≤ length b) × (slice p (p + n) b ≡ if_book v (pay_of f) [])
+      go : (v : Written) {f : Found} → Placed b f → at_place p n ≡ if_book v (place_of f) (code.refused NoDump 0) → (p + n ≤ length b) × (slice p (p + n) b ≡ if_book v (pay_of f) [])
       go no_book w q = absurd (let z : ◌≡◌ {A = ℕ} 0 1 = cc in omega arith)
       go (written d) nowhere q = absurd (let z : ◌≡◌ {A = ℕ} 0 1 = cc in omega arith)
       go (written d) (somewhere {h = h} w) q =
-          let x : p ≡ h.at + 4 = cc in
-          let y : n ≡ length h.pay = cc in
-          (omega (arith, w.within), rw (x, y) w.is)
+          let x = same_place q in
+          (omega (arith, w.within, x.0, x.1), rw (x.0, x.1) w.is)
 
   pub handed_fits : p + n ≤ length b
   handed_fits = handed.0
@@ -101,19 +99,19 @@ module _ {b : List ℕ} {i k : ℕ} {r : Place} (t : PlaceTold b i k r) {p n : �
   handed_part = record { is = lent p (p + n) b ∙ handed.1 }
 
 -- and where it is refused, nothing is handed back
-pub handed_none : {b : List ℕ} {i k : ℕ} {r : Place} → PlaceTold b i k r → {f : Fault} {p : ℕ} → r ≡ place.Refused f p → FieldTold b i k []
+pub handed_none : {b : List ℕ} {i k : ℕ} {r : Sought} → PlaceTold b i k r → {f : Fault} {p : ℕ} → r ≡ code.refused f p → FieldTold b i k []
 unfolding placing handing
 handed_none {b} {i} {k} {r} t {f} {p} e = record { is = go (write_dump b) (field_of i k (records b)) (sym e ∙ t.is) }
   where
-    go : (v : Written) (x : Found) → place.Refused f p ≡ if_book v (place_of x) (place.Refused NoDump 0) → [] ≡ if_book v (pay_of x) []
+    go : (v : Written) (x : Found) → code.refused f p ≡ if_book v (place_of x) (code.refused NoDump 0) → [] ≡ if_book v (pay_of x) []
     go no_book x q = refl
     go (written d) none q = refl
     go (written d) (found h) q = absurd (let z : ◌≡◌ {A = ℕ} 0 1 = cc in omega arith)
 
 -- what field hands back is the part that field_place tells
-pub same_part : {b x : List ℕ} {i k p n : ℕ} → FieldTold b i k x → PlaceTold b i k (place.At p n) → x ≡ slice p (p + n) b
+pub same_part : {b x : List ℕ} {i k p n : ℕ} → FieldTold b i k x → PlaceTold b i k (at_place p n) → x ≡ slice p (p + n) b
 same_part {b} {p = p} {n = n} f t = f.is ∙ sym (handed t refl).1
 
 -- and nothing where field_place refuses
-pub no_part : {b x : List ℕ} {i k p : ℕ} {f : Fault} → FieldTold b i k x → PlaceTold b i k (place.Refused f p) → x ≡ []
+pub no_part : {b x : List ℕ} {i k p : ℕ} {f : Fault} → FieldTold b i k x → PlaceTold b i k (code.refused f p) → x ≡ []
 no_part g t = g.is ∙ sym (handed_none t refl).is

@@ -1,5 +1,5 @@
 -- The first of the records from a place on.
-use Rattle.std.specs.Prelude.{ℕ, zero, suc, ◌+◌, ◌<◌, ◌≤◌, ◌≡◌, List, [], ◌∷◌, length, get_or, drop, eqb}
+use Rattle.std.specs.Prelude.{ℕ, zero, suc, ◌+◌, ◌<◌, ◌≤◌, ◌≡◌, List, [], ◌∷◌, length, drop, eqb, Option, Some, None}
 use Rattle.std.proofs.Math.Path.{refl}
 use Rattle.std.proofs.Common.{arith}
 use Rattle.std.proofs.Math.Seq.{slice, length-slice}
@@ -9,8 +9,9 @@ use Rattle.rules.specs.Files.{two}
 use Rattle.rules.specs.Book.{records, records_from, Ends}
 use Rattle.rules.specs.BookLaws.{ends_least, ends_good, ends_cut}
 use Rattle.rules.specs.Blocks.{closing}
+use Rattle.links.specs.declared.index.Index.{Index}
 use Rattle.links.specs.Links.{Object, held_from, objects_from, links_from, links, chosen, object_at}
-use Rattle.links.specs.Finding.{Within, objects_at, held_at, object_there, held_there, Indexed}
+use Rattle.links.specs.Finding.{Entered, Within, objects_at, held_at, object_there, held_there, FoundAt, Lies, id_at, entry_at}
 
 -- all records are those from the start on
 pub from_start : (b : List ℕ) → records_from b 0 ≡ records b
@@ -51,6 +52,10 @@ at_number [] j h = absurd (omega arith)
 at_number (o ∷ os) zero h = (o, refl, refl)
 at_number (o ∷ os) (suc j) h = at_number os j (omega arith)
 
--- a place of the index is one
-pub place_within : {b entries places : List ℕ} {e n j : ℕ} → Indexed b entries places n → Within b e → j < n → Within b (get_or places j 0)
-place_within {j = j} x v h = record { high = (x.placed.are j h).high; small = v.small }
+-- a place of the index is in the bytes
+pub place_within : {b : List ℕ} {x : Index} {e j : ℕ} → Entered b x → Within b e → j < x.n → Lies b (entry_at x.entries j).id
+place_within {b} {x} {j = j} g v h = go (entry_at x.entries j).id (g.entries.ids j h)
+  where
+    go : (r : Option ℕ) → FoundAt b (id_at b j) r → Lies b r
+    go None w = (tt, v.small)
+    go (Some p) w = (w.inside, v.small)

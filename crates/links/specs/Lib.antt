@@ -4,6 +4,7 @@ pub mod WholeLaws
 pub mod Finding
 pub mod FindingLaws
 pub mod Chains
+pub mod Numbers
 pub mod Serving
 pub mod BookFacts
 pub mod Told

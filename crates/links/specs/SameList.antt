@@ -9,7 +9,7 @@ use Rattle.elements.specs.Choice.{choose}
 use Rattle.elements.specs.ChoiceLaws.{all_both}
 use Rattle.elements.specs.Lists.{Bytes}
 use Rattle.elements.specs.Record.{record_bytes}
-use Rattle.rules.specs.declared.outcome.Outcome.{Outcome}
+use Rattle.elements.specs.Answer.{Outcome}
 use Rattle.rules.specs.Reading.{Rec, rec}
 use Rattle.rules.specs.Book.{encode}
 use Rattle.rules.specs.Files.{accepted, has_dir, read_dump}

@@ -6,8 +6,9 @@ use mathlib.Core.List.{List, [], ◌∷◌, Memᴰ}
 use Rattle.elements.specs.declared.fault.Fault.TheVariants.{NoRoom}
 use Rattle.elements.specs.Choice.{choose}
 use Rattle.elements.specs.Lists.{Bytes}
-use Rattle.rules.specs.declared.outcome.Outcome.{Outcome}
-use Rattle.rules.specs.declared.outcome.Outcome.TheVariants.{Accepted, Refused}
+use Rattle.elements.specs.Answer.{Outcome}
+use Rattle.elements.specs.Answer as code
+use Rattle.std.specs.Prelude.{Ok}
 use Rattle.rules.specs.Book.{encode}
 use Rattle.rules.specs.Files.{accepted, read_dump}
 use Rattle.cards.specs.Card.{Card, Meets, dump_of, book_of}
@@ -65,7 +66,7 @@ module _ (x : Card) (meets : Meets x) (bytes : Bytes (dump_of x)) where
   unfolding listing
   gives t = t.is ∙ rw (read_then_written (record { bytes = bytes; records = book_of x; reads = reads; book = refl }), records_of_lem (dump_of x) (book_of x) bytes reads) refl
 
-  pub room : {a c : List ℕ} {r : Outcome} → ListTold (encode (book_of x)) a c r → (4 * length (links (book_of x)) ≤ length a → r ≡ Accepted (4 * length (links (book_of x)))) × (length a < 4 * length (links (book_of x)) → (r ≡ Refused NoRoom (4 * length (links (book_of x)))) × (c ≡ a))
+  pub room : {a c : List ℕ} {r : Outcome} → ListTold (encode (book_of x)) a c r → (4 * length (links (book_of x)) ≤ length a → r ≡ Ok (4 * length (links (book_of x)))) × (length a < 4 * length (links (book_of x)) → (r ≡ code.refused NoRoom (4 * length (links (book_of x)))) × (c ≡ a))
   room {a} {c} {r} t =
       let rows = listed (links (book_of x)) in
       rw (← four_each (links (book_of x))) ((λ l. (fitting rows a c r (gives t) l).0), (λ l. too_long rows a c r (gives t) l))

@@ -1,9 +1,10 @@
 // Objects whose identifiers have the same key, in chains: a link looks at those of its own key alone.
 ghost use Rattle.std.specs.Prelude.{◌≤◌, length};
 ghost use Rattle.std.proofs.Math.Seq.{slice};
-ghost use Rattle.links.specs.Finding.{Within, Placed};
-ghost use Rattle.links.specs.Chains.{Key, Chained};
+ghost use Rattle.links.specs.Finding.{Within, Entered};
+ghost use Rattle.links.specs.Chains.{Key, Blank, Indexed};
 
+use crate::index::Index;
 use rules::record_end;
 
 // What equal identifiers have in common: the last byte of what stands from p to e, 0 if there is none.
@@ -17,20 +18,19 @@ pub fn key(b: &[u8], p: usize, e: usize) -> usize
     b[e - 1] as usize
 }
 
-// The chains of n objects: the first one of each key, and from 256 on the one of its key after each object.
-pub fn chain(b: &[u8], n: usize, places: &[usize], chains: &mut [u8])
-    requires { Placed b.now places.now n × Chained b.now chains.old n n × Within b.now 0 }
-    ensures { Chained b.now chains.new n 0 }
-{
-    let mut j = n;
-    while 0 < j {
-        j -= 1;
-        let place = places[j];
-        if b.len() < place + 4 {
-            continue;
+impl Index {
+    // The chains of the objects that were entered: the first one of each key, and the one of its key after each object.
+    pub fn chain(&mut self, b: &[u8])
+        requires { Entered b.now self.old × Blank self.old.firsts × Within b.now 0 }
+        ensures { Indexed b.now self.new }
+    {
+        for j in (0..self.n).rev() {
+            let Some(p) = self.entries[j].id else {
+                continue;
+            };
+            let h = key(b, p + 4, record_end(b, p));
+            self.entries[j].next = self.firsts[h];
+            self.firsts[h] = Some(j as u8);
         }
-        let h = key(b, place + 4, record_end(b, place));
-        chains[256 + j] = chains[h];
-        chains[h] = j as u8;
     }
 }

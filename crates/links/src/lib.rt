@@ -11,6 +11,7 @@ mod sorts;
 
 pub use fields::{Place, field, field_place};
 pub use finding::next_object;
-pub use listing::{indexed, list};
+pub use index::{Entry, Index};
+pub use listing::list;
 pub use rows::put_links;
-pub use sorts::{is_answering, is_closing, link_of};
+pub use sorts::{Link, NoLink, is_answering, is_closing, link_of};

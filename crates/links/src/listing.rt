@@ -2,64 +2,44 @@ ghost use Rattle.std.specs.Prelude.{◌≡◌, ◌≤◌, length};
 ghost use Rattle.rules.specs.Book.{records};
 ghost use Rattle.layouts.specs.Service.{Gives};
 ghost use Rattle.links.specs.Links.{links, listed};
-ghost use Rattle.links.specs.Finding.{Within, objects_at, Indexed};
-ghost use Rattle.links.specs.Chains.{Blank, Chained};
+ghost use Rattle.links.specs.Finding.{Within, objects_at};
+ghost use Rattle.links.specs.Chains.{Indexed};
 ghost use Rattle.links.specs.Serving.{ListTold};
 
-use crate::chains::chain;
-use crate::index::index;
+use crate::index::Index;
 use crate::rows::put_links;
-use elements::Fault;
-use layouts::{Outcome, is_book};
-
-// The index of a book's objects and the chains of their identifiers; how many objects there are.
-pub fn indexed(b: &[u8], entries: &mut [u8], places: &mut [usize], chains: &mut [u8]) -> usize
-    requires { Within b.now 0 × (length (objects_at b.now 0) ≤ 128) × (128 ≤ length entries.old) × (128 ≤ length places.old) × Blank chains.old }
-    ensures { Indexed b.now entries.new places.new result × Chained b.now chains.new result 0 }
-{
-    let n = index(b, entries, places);
-    chain(b, n, places, chains);
-    n
-}
+use elements::{Fault, Refusal};
+use layouts::is_book;
 
 // How many numbers the list has: it is put where there is no room.
-fn numbers(b: &[u8], n: usize, entries: &[u8], places: &[usize], chains: &[u8]) -> usize
-    requires { Indexed b.now entries.now places.now n × Chained b.now chains.now n 0 × Within b.now 0 }
+fn numbers(b: &[u8], index: &Index) -> usize
+    requires { Indexed b.now index.now × Within b.now 0 }
     ensures { result ≡ length (listed (links (records b.now))) }
 {
     let mut nothing = [0u32; 0];
-    4 * put_links(b, n, entries, places, chains, &mut nothing, 0)
+    4 * put_links(b, index, &mut nothing, 0)
 }
 
 // The links of an accepted book: how many numbers there are, and then, if there is room, the numbers.
-fn list_by(
-    b: &[u8],
-    rows: &mut [u32],
-    entries: &mut [u8],
-    places: &mut [usize],
-    chains: &mut [u8],
-) -> Outcome
-    requires { Within b.now 0 × (length (objects_at b.now 0) ≤ 128) × (128 ≤ length entries.old) × (128 ≤ length places.old) × Blank chains.old }
+fn list_by(b: &[u8], rows: &mut [u32]) -> Result<usize, Refusal>
+    requires { Within b.now 0 × (length (objects_at b.now 0) ≤ 128) }
     ensures { Gives (listed (links (records b.now))) rows.old rows.new result }
 {
-    let n = indexed(b, entries, places, chains);
-    let m = numbers(b, n, entries, places, chains);
+    let index = Index::of(b);
+    let m = numbers(b, &index);
     if rows.len() < m {
-        return Outcome::Refused(Fault::NoRoom, m);
+        return Err(Refusal(Fault::NoRoom, m));
     }
-    put_links(b, n, entries, places, chains, rows, 0);
-    Outcome::Accepted(m)
+    put_links(b, &index, rows, 0);
+    Ok(m)
 }
 
 // The links of a book into lent numbers, four a row.
-pub fn list(book: &[u8], rows: &mut [u32]) -> Outcome
+pub fn list(book: &[u8], rows: &mut [u32]) -> Result<usize, Refusal>
     ensures { ListTold book.now rows.old rows.new result }
 {
-    if is_book(book) {
-        let mut entries = [0u8; 128];
-        let mut places = [0usize; 128];
-        let mut chains = [255u8; 384];
-        return list_by(book, rows, &mut entries, &mut places, &mut chains);
+    if !is_book(book) {
+        return Err(Refusal(Fault::NoDump, 0));
     }
-    Outcome::Refused(Fault::NoDump, 0)
+    list_by(book, rows)
 }

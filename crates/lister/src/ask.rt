@@ -1,42 +1,23 @@
 // What is asked for, by the words that the program was started with.
-ghost use Rattle.std.specs.Prelude.{◌≤◌, length};
-
-use rules::same_bytes;
 use std::env::{Env, FillError};
 
+// What is asked. Row(None) is a row that no list has: its word is no decimal number, or a number beyond every list.
 #[derive(Clone, Copy)]
 pub enum Question {
     List,
     Whys,
-    Row(usize),
+    Row(Option<usize>),
     Where,
 }
 
-// The number of no row: a book has at most 131,072 bytes, and no list so many rows.
-const NO_ROW: usize = 10000000000;
-
-// A decimal number with one digit more, by its ASCII code; of more than ten digits, or of what is no digit, no row.
-fn with_digit(n: usize, code: u8) -> usize
-    requires { n ≤ 10000000000 }
-    ensures { result ≤ 10000000000 }
-{
-    if n >= 1000000000 {
-        return NO_ROW;
+// A decimal number, if the text is one that 64 bits hold.
+fn number(text: &[u8]) -> Option<usize> {
+    let mut n = 0usize;
+    for c in text {
+        let digit = char::from(*c).to_digit(10)?;
+        n = n.checked_mul(10)?.checked_add(digit as usize)?;
     }
-    match code {
-        48..=57 => 10 * n + (code - 48) as usize,
-        _ => NO_ROW,
-    }
-}
-
-fn number(text: &[u8]) -> usize {
-    let mut n = 0;
-    let mut i = 0;
-    while i < text.len() {
-        n = with_digit(n, text[i]);
-        i += 1;
-    }
-    n
+    Some(n)
 }
 
 // Whether the program was started with a word i; its own name is word 0.
@@ -44,48 +25,46 @@ fn is_given(rt: &impl Env, i: usize) -> bool {
     !matches!(rt.arg(i, &mut []), Err(FillError::NotPresent))
 }
 
-// Word i at the start of the text, and its length; 0 if it is not given, or longer than the text.
-fn given(rt: &impl Env, i: usize, text: &mut [u8]) -> usize
-    ensures { result ≤ length text.new }
-{
-    rt.arg(i, text).unwrap_or(0)
+// Word i, if it is given, and no longer than the lent text.
+fn given<'a>(rt: &impl Env, i: usize, text: &'a mut [u8]) -> Option<&'a [u8]> {
+    let n = rt.arg(i, text).ok()?;
+    Some(&text[..n])
+}
+
+// The row that word 2 names. An empty word names none.
+fn row(rt: &impl Env) -> Option<usize> {
+    let mut text = [0u8; 64];
+    match given(rt, 2, &mut text)? {
+        [] => None,
+        word => number(word),
+    }
 }
 
 // `where`, or else `why`.
 fn is_where(rt: &impl Env) -> bool {
     let mut text = [0u8; 8];
-    let n = given(rt, 1, &mut text);
-    same_bytes(&text, 0, n, b"where", 0, 5)
+    matches!(given(rt, 1, &mut text), Some(b"where"))
 }
 
+// The question that the words ask.
 pub fn asked(rt: &impl Env) -> Question {
     if !is_given(rt, 1) {
-        return Question::List;
+        Question::List
+    } else if is_where(rt) {
+        Question::Where
+    } else if !is_given(rt, 2) {
+        Question::Whys
+    } else {
+        Question::Row(row(rt))
     }
-    if is_where(rt) {
-        return Question::Where;
-    }
-    if !is_given(rt, 2) {
-        return Question::Whys;
-    }
-    let mut text = [0u8; 64];
-    let n = given(rt, 2, &mut text);
-    if n == 0 {
-        // an empty word, or one that is longer than the text
-        return Question::Row(NO_ROW);
-    }
-    Question::Row(number(&text[..n]))
 }
 
-// Whether the card is a book: its first record's kind is at least 0100, and a dump's is 0001 or 0005. The list is a dump's.
+// Whether the card is a book: its first record's kind is at least 0100, and a dump's is 0001 or 0005. The list is a
+// dump's.
 pub fn of_a_book(asked: Question, card: &[u8]) -> bool {
-    match asked {
-        Question::List => false,
-        _ => {
-            if card.len() < 4 {
-                return false;
-            }
-            card[3] != 0
-        }
+    match (asked, card) {
+        (Question::List, _) => false,
+        (_, [_, _, _, high, ..]) => *high != 0,
+        _ => false,
     }
 }

@@ -1,5 +1,3 @@
 pub mod LeafLaws
 pub mod MakeConditionLaws
 pub mod MakeCommonLaws
-pub mod MakeTypeLaws
-pub mod MakeObjectLaws

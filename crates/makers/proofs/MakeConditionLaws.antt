@@ -7,8 +7,9 @@ use lib.ListN.{length}
 use lib.Seq.{slice, slice_empty}
 use borrow.Author.Tests.{ne_eqb}
 use Rattle.elements.specs.Length.{wrap}
+use Rattle.std.specs.Prelude.{Ok, Err}
 use Rattle.makers.specs.declared.made.Made.{Made}
-use Rattle.makers.specs.declared.made.Made.TheVariants.{Took, Long}
+use Rattle.makers.specs.declared.made.TooLong.{TooLong}
 use Rattle.rules.specs.declared.table.Sort.{Sort}
 use Rattle.rules.specs.declared.table.Sort.TheVariants.{Always, Identifier, Not, And, Or, Other}
 use Rattle.rules.specs.Reading.{Rec, count}
@@ -16,9 +17,9 @@ use Rattle.rules.specs.Files.{two}
 use Rattle.rules.specs.Tables.{kind_of, sort_by}
 use Rattle.rules.specs.Render.{gives, Renderer, ◌next◌, within, from, r_times, r_condition_as, r_condition}
 use Rattle.rules.specs.Book.{records_from, Ends}
-use Rattle.makers.specs.Making.{Makes}
+use Rattle.makers.specs.Making.{Answer, Makes}
 use Rattle.rules.specs.BookLaws.{from_few}
-use Rattle.makers.specs.MadeLaws.{makes_none, makes_as, makes_same, made_high, made_room, then_long, then_took, from_some}
+use Rattle.makers.specs.MadeLaws.{makes_none, makes_as, makes_same, made_high, made_room, next_long, next_took, from_some}
 use Rattle.rules.specs.Conditions as conditions
 
 -- ---- the sort that has a kind
@@ -66,21 +67,21 @@ unfolding conditions.condition
 none_left zero = refl
 none_left (suc l) = refl
 
-module _ (b : List ℕ) (levels : ℕ) {i : ℕ} where
-  pub condition_deep : (a : List ℕ) (o : ℕ) → levels ≡ 0 → i ≤ length b → o ≤ length a → Makes b a a i o (r_condition levels (records_from b i)) (Took i o)
-  condition_deep a o z h l = makes_as (makes_none b a i o h l) (sym (none_deep levels (records_from b i) z))
+module _ (b : List ℕ) (levels : ℕ) where
+  pub condition_deep : (a : List ℕ) (x : Made) → levels ≡ 0 → x.next ≤ length b → x.end ≤ length a → Makes b a a x.next x.end (r_condition levels (records_from b x.next)) (Ok x)
+  condition_deep a x z h l = makes_as (makes_none b a x h l) (sym (none_deep levels (records_from b x.next) z))
 
-  pub condition_none : (a : List ℕ) (o : ℕ) → length b < i + 4 → i ≤ length b → o ≤ length a → Makes b a a i o (r_condition levels (records_from b i)) (Took i o)
-  condition_none a o z h l = makes_as (makes_none b a i o h l) (rw (from_few b i z) (sym (none_left levels)))
+  pub condition_none : (a : List ℕ) (x : Made) → length b < x.next + 4 → x.next ≤ length b → x.end ≤ length a → Makes b a a x.next x.end (r_condition levels (records_from b x.next)) (Ok x)
+  condition_none a x z h l = makes_as (makes_none b a x h l) (rw (from_few b x.next z) (sym (none_left levels)))
 
-  pub condition_here : {a c : List ℕ} {e o k : ℕ} {y : Sort} {r : Made} → (levels ≡ 0 → ⊥) → Ends b i e → k ≡ two b (i + 2) → y ≡ sort_by kind_of k → Makes b a c e o (r_condition_as (levels - 1) y (slice (i + 4) e b) (records_from b e)) r → Makes b a c i o (r_condition levels (records_from b i)) r
-  condition_here n h w v m = makes_as (from_some (λ k p. r_condition_as (levels - 1) (sort_by kind_of k) p) h (rw (v, w) at m)) (sym (by_level levels (records_from b i) n))
+  pub condition_here : {a c : List ℕ} {i e o k : ℕ} {y : Sort} {r : Answer} → (levels ≡ 0 → ⊥) → Ends b i e → k ≡ two b (i + 2) → y ≡ sort_by kind_of k → Makes b a c e o (r_condition_as (levels - 1) y (slice (i + 4) e b) (records_from b e)) r → Makes b a c i o (r_condition levels (records_from b i)) r
+  condition_here {i = i} n h w v m = makes_as (from_some (λ k p. r_condition_as (levels - 1) (sort_by kind_of k) p) h (rw (v, w) at m)) (sym (by_level levels (records_from b i) n))
 
 -- ---- a condition of a sort
-module _ (b : List ℕ) (levels p i : ℕ) {y : Sort} {a c : List ℕ} {o : ℕ} {r : Made} where
-  pub as_always : y ≡ Always → Makes b a c i o (gives (wrap 5 (slice i i b)) (records_from b i)) r → Makes b a c i o (r_condition_as levels y (slice p i b) (records_from b i)) r
+module _ (b : List ℕ) (levels p i : ℕ) {y : Sort} {a c : List ℕ} {o : ℕ} {r : Answer} where
+  pub as_always : y ≡ Always → Makes b a c i o (gives (wrap 5 (slice p p b)) (records_from b i)) r → Makes b a c i o (r_condition_as levels y (slice p i b) (records_from b i)) r
   unfolding r_condition_as
-  as_always z m = rw z (rw (slice_empty i b) at m)
+  as_always z m = rw z (rw (slice_empty p b) at m)
 
   pub as_identifier : y ≡ Identifier → Makes b a c i o (gives (wrap 4 (slice p i b)) (records_from b i)) r → Makes b a c i o (r_condition_as levels y (slice p i b) (records_from b i)) r
   unfolding r_condition_as
@@ -120,37 +121,40 @@ unfolding r_times
 times_more q zero rs h = absurd (omega arith)
 times_more q (suc k) rs h = let u : suc k - 1 ≡ k = omega arith in rw u refl
 
--- what `left` more of them make from n and t on completes the whole
-pub record Timing (b : List ℕ) (levels k : ℕ) (a c : List ℕ) (i o left n t : ℕ) : Type 0 where
-  pub is : (d : List ℕ) (s : Made) → Makes b c d n t (r_times left (Inner levels) (records_from b n)) s → Makes b a d i o (r_times k (Inner levels) (records_from b i)) s
-  pub high : n ≤ length b
-  pub room : t ≤ length c
+-- after j of them, what the others make from x on completes the whole
+pub record Timing (b : List ℕ) (levels k : ℕ) (a c : List ℕ) (i o j : ℕ) (x : Made) : Type 0 where
+  pub is : (d : List ℕ) (s : Answer) → Makes b c d x.next x.end (r_times (k - j) (Inner levels) (records_from b x.next)) s → Makes b a d i o (r_times k (Inner levels) (records_from b i)) s
+  pub high : x.next ≤ length b
+  pub room : x.end ≤ length c
   pub same : length c ≡ length a
 
-pub times_deep : (b : List ℕ) (levels k i : ℕ) (a : List ℕ) (o : ℕ) → levels ≡ 0 → i ≤ length b → o ≤ length a → Makes b a a i o (r_times k (Inner levels) (records_from b i)) (Took i o)
-times_deep b levels k i a o z h l = makes_as (makes_none b a i o h l) (sym (times_none (Inner levels) k (records_from b i) (none_deep levels (records_from b i) z)))
+pub times_deep : (b : List ℕ) (levels k : ℕ) (a : List ℕ) (x : Made) → levels ≡ 0 → x.next ≤ length b → x.end ≤ length a → Makes b a a x.next x.end (r_times k (Inner levels) (records_from b x.next)) (Ok x)
+times_deep b levels k a x z h l = makes_as (makes_none b a x h l) (sym (times_none (Inner levels) k (records_from b x.next) (none_deep levels (records_from b x.next) z)))
 
-pub timing_start : (b : List ℕ) (levels k : ℕ) (a : List ℕ) (i o : ℕ) → i ≤ length b → o ≤ length a → Timing b levels k a a i o k i o
-timing_start b levels k a i o h l = record { is = λ d s m. m; high = h; room = l; same = refl }
+pub timing_start : (b : List ℕ) (levels k : ℕ) (a : List ℕ) (x : Made) → x.next ≤ length b → x.end ≤ length a → Timing b levels k a a x.next x.end 0 x
+timing_start b levels k a x h l = let z : k - 0 ≡ k = omega arith in record { is = λ d s m. rw z at m; high = h; room = l; same = refl }
 
-module _ {b : List ℕ} {levels k : ℕ} {a c : List ℕ} {i o left n t : ℕ} (h : Timing b levels k a c i o left n t) where
-  pub timing_none : length b < n + 4 → Makes b a c i o (r_times k (Inner levels) (records_from b i)) (Took n t)
+module _ {b : List ℕ} {levels k : ℕ} {a c : List ℕ} {i o j : ℕ} {x : Made} (h : Timing b levels k a c i o j x) where
+  pub timing_none : length b < x.next + 4 → Makes b a c i o (r_times k (Inner levels) (records_from b i)) (Ok x)
   timing_none l =
-      let e : records_from b n ≡ [] = from_few b n l in
-      let f : r_condition levels (records_from b n) ≡ gives [] (records_from b n) = rw e (none_left levels) in
-      h.is c (Took n t) (makes_as (makes_none b c n t h.high h.room) (sym (times_none (Inner levels) left (records_from b n) f)))
+      let e : records_from b x.next ≡ [] = from_few b x.next l in
+      let f : r_condition levels (records_from b x.next) ≡ gives [] (records_from b x.next) = rw e (none_left levels) in
+      h.is c (Ok x) (makes_as (makes_none b c x h.high h.room) (sym (times_none (Inner levels) (k - j) (records_from b x.next) f)))
 
-  pub timing_all : left ≤ 0 → Makes b a c i o (r_times k (Inner levels) (records_from b i)) (Took n t)
-  timing_all l = h.is c (Took n t) (makes_as (makes_none b c n t h.high h.room) (sym (times_zero (Inner levels) left (records_from b n) l)))
+  pub timing_all : k ≤ j → Makes b a c i o (r_times k (Inner levels) (records_from b i)) (Ok x)
+  timing_all l = h.is c (Ok x) (makes_as (makes_none b c x h.high h.room) (sym (times_zero (Inner levels) (k - j) (records_from b x.next) (omega arith))))
 
-  module _ (l : 0 < left) {d : List ℕ} {r : Made} (m : Makes b c d n t (r_condition levels (records_from b n)) r) where
-    pub timing_long : r ≡ Long → Makes b a d i o (r_times k (Inner levels) (records_from b i)) Long
-    timing_long z = h.is d Long (makes_as (then_long (Inner levels) (r_times (left - 1) (Inner levels)) (records_from b n) m z) (sym (times_more (Inner levels) left (records_from b n) l)))
+  module _ (l : j < k) where
+    turn : {d : List ℕ} {s : Answer} → Makes b c d x.next x.end ((Inner levels next r_times (k - (j + 1)) (Inner levels)) (records_from b x.next)) s → Makes b a d i o (r_times k (Inner levels) (records_from b i)) s
+    turn {d} {s} m = let z : k - j - 1 ≡ k - (j + 1) = omega arith in h.is d s (makes_as m (sym (rw z at (times_more (Inner levels) (k - j) (records_from b x.next) (omega arith)))))
 
-    pub timing_next : {x y : ℕ} → r ≡ Took x y → Timing b levels k a d i o (left - 1) x y
-    timing_next {x} {y} z = record {
-      is = λ e s v. h.is e s (makes_as (then_took (Inner levels) (r_times (left - 1) (Inner levels)) (records_from b n) m z v) (sym (times_more (Inner levels) left (records_from b n) l)));
-      high = made_high m z;
-      room = made_room m z;
+    pub timing_long : {d : List ℕ} {y : TooLong} → Makes b c d x.next x.end (r_condition levels (records_from b x.next)) (Err y) → Makes b a d i o (r_times k (Inner levels) (records_from b i)) (Err y)
+    timing_long m = turn (next_long (Inner levels) (r_times (k - (j + 1)) (Inner levels)) m)
+
+    pub timing_next : {d : List ℕ} {y : Made} → Makes b c d x.next x.end (r_condition levels (records_from b x.next)) (Ok y) → Timing b levels k a d i o (j + 1) y
+    timing_next m = record {
+      is = λ e s v. turn (next_took (Inner levels) (r_times (k - (j + 1)) (Inner levels)) m v);
+      high = made_high m;
+      room = made_room m;
       same = makes_same m ∙ h.same;
     }

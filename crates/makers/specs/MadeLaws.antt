@@ -1,9 +1,12 @@
 -- How what is made is put together.
-use Rattle.std.specs.Prelude.{ℕ, suc, ◌+◌, ◌-◌, ◌<◌, ◌≤◌, ◌≡◌, refl, Bool, true, false, ◌||◌, List, [], ◌∷◌, ◌++◌, get_or, take, drop, set, eqb}
-use Rattle.std.proofs.Common.{sym, ap, ◌∙◌, append_assoc, append-nil, arith, length-append, length-set, take-append-drop, drop_at, take-take, drop-drop, take-suc, get_or-take, length-take-le, lt-ltb, le-ltb}
-use Rattle.std.proofs.Math.ListN.{length, get_or-append}
-use Rattle.std.proofs.Math.Seq.{slice, slice-cons, slice_empty}
-use Rattle.std.proofs.lemmas.List.{set_at, take-append-le}
+use Rattle.std.specs.Prelude.{ℕ, ◌+◌, ◌-◌, ◌<◌, ◌≤◌, ◌≡◌, refl, Bool, true, false, ◌||◌, List, [], ◌∷◌, ◌++◌, take, drop, eqb, Ok, Err}
+use Rattle.std.proofs.Common.{sym, ap, ◌∙◌, append_assoc, arith, length-append, take-append-drop, drop_at, take-take, drop-drop, length-take-le, lt-ltb, le-ltb}
+use Rattle.std.proofs.Math.ListN.{length}
+use Rattle.std.proofs.Math.Seq.{slice}
+use Rattle.std.proofs.lemmas.List.{drop-take, take-append-le}
+use Rattle.std.specs.Borrow.{MutBor}
+use Rattle.std.specs.List.{copy_within}
+use Rattle.std.specs.Result.{IsErr, IsErrAnd}
 use Rattle.std.proofs.lemmas.List.Edits.{sets-eq}
 use Rattle.elements.specs.ChoiceLaws.{by_choose, by_less}
 use Rattle.rules.specs.BookLaws.{from_few}
@@ -11,63 +14,35 @@ use Rattle.elements.specs.Length.{shortest, wrap}
 use Rattle.elements.specs.Lists.{join}
 use Rattle.elements.specs.Sealed.{among}
 use Rattle.elements.specs.Put.{Put}
+use Rattle.elements.specs.AnswerLaws.{leaves}
 use Rattle.elements.specs.PutLaws.{put_none, put_put, put_length, put_fits, put_there}
 use Rattle.makers.specs.declared.made.Made.{Made}
-use Rattle.makers.specs.declared.made.Made.TheVariants.{Took, Long}
+use Rattle.makers.specs.declared.made.TooLong.{TooLong}
 use Rattle.rules.specs.Reading.{Rec, rec}
 use Rattle.rules.specs.Files.{two}
 use Rattle.rules.specs.Render.{Rendered, gives, Renderer, ◌next◌, when, either, from}
 use Rattle.rules.specs.Book.{records_from, Ends, next_is}
-use Rattle.makers.specs.Making.{Walk, there, onto, Steps, Makes, makes, breaks, Making, Onward, Moved, Opened, begins, lacks, Ended, Closed, next_among}
+use Rattle.makers.specs.Making.{Answer, Walk, there, onto, Steps, Makes, makes, breaks, Making, Onward, Moved, Opened, begins, lacks, Ended, Closed, Gives, Enclosed, MakesIn, next_among}
 
 -- a splice that fits is a put
-spliced : (a d x : List ℕ) (o p : ℕ) → p ≡ o + length x → p ≤ length a → d ≡ take o a ++ x ++ drop p a → Put a d o p x
+pub spliced : (a d x : List ℕ) (o p : ℕ) → p ≡ o + length x → p ≤ length a → d ≡ take o a ++ x ++ drop p a → Put a d o p x
 spliced a d x o p e h q = record { at = e; to = q ∙ sym (rw (← e) at (sets-eq x a o (omega arith))) }
 
--- moving, a place at a time, from the end
-moved_none : (c : List ℕ) (to by : ℕ) → to + by ≤ length c → Moved c c to to by
-moved_none c to by h = record { is = rw (slice_empty to c, append-nil (take (to + by) c)) (sym (take-append-drop (to + by) c)) }
-
--- or not at all
+-- no move
 pub moved_same : (c : List ℕ) (start to by : ℕ) → by ≡ 0 → start ≤ to → to + by ≤ length c → Moved c c start to by
 moved_same c start to by e h l =
     let a : start + by ≡ start = omega arith in
     let b : to + by ≡ to = omega arith in
     record { is = rw (a, b) (sym (rw (join 0 start to c (omega arith) h) (take-append-drop to c))) }
 
-moved_step : (c x : List ℕ) (to by j y : ℕ) → Moved c x (suc j) to by → suc j ≤ to → to + by ≤ length c → y ≡ get_or x j 0 → Moved c (set x (j + by) y) j to by
-moved_step c x to by j y m h l q =
-    let P = take (j + by) c in
-    let S = slice (suc j) to c in
-    let D = drop (to + by) c in
-    let z = get_or c (j + by) 0 in
-    let w : suc j + by ≡ suc (j + by) = omega arith in
-    let a : x ≡ P ++ (z ∷ []) ++ S ++ D = m.is ∙ rw (w, take-suc c (j + by) 0 (omega arith)) refl in
-    let e : x ≡ P ++ (z ∷ (S ++ D)) = a ∙ rw (append_assoc P (z ∷ []) S, append_assoc P (z ∷ S) D) refl in
-    let n : length P ≡ j + by = length-take-le (j + by) c (omega arith) in
-    let b : x ≡ take (suc (j + by)) c ++ (S ++ D) = m.is ∙ rw (w) (append_assoc (take (suc (j + by)) c) S D) in
-    let k : length (take (suc (j + by)) c) ≡ suc (j + by) = length-take-le (suc (j + by)) c (omega arith) in
-    let g : y ≡ get_or c j 0 = q ∙ rw b (get_or-append (take (suc (j + by)) c) (S ++ D) 0 j (omega arith) ∙ get_or-take (suc (j + by)) c j 0 (omega arith)) in
-    record { is = rw e (set_at P z (S ++ D) y (j + by) n ∙ rw (slice-cons j to c 0 h (omega arith), g) (sym (append_assoc P (get_or c j 0 ∷ S) D))) }
-
--- what stands from k on has moved
-pub record Shifting (c x : List ℕ) (start to by k : ℕ) : Type 0 where
-  pub is : Moved c x k to by
-  pub low : start ≤ k
-  pub high : k ≤ to
-  pub same : length x ≡ length c
-
-pub shifting_start : (c : List ℕ) (start to by : ℕ) → start ≤ to → to + by ≤ length c → Shifting c c start to by to
-shifting_start c start to by h l = record { is = moved_none c to by l; low = h; high = omega arith; same = refl }
-
-module _ {c x : List ℕ} {start to by k : ℕ} (m : Shifting c x start to by k) where
-  pub shifting_more : {j y : ℕ} → start < k → to + by ≤ length c → j ≡ k - 1 → y ≡ get_or x j 0 → Shifting c (set x (j + by) y) start to by j
-  shifting_more {j} {y} z l e q =
-      let s : k ≡ suc j = omega arith in
-      record { is = moved_step c x to by j y (rw s at m.is) (omega (arith, m.high)) l q; low = omega arith; high = omega (arith, m.high); same = length-set x (j + by) y ∙ m.same }
-
-  pub shifting_done : k ≤ start → Moved c x start to by
-  shifting_done h = let s : k ≡ start = omega (arith, m.low) in rw s at m.is
+-- a copy further up
+pub moved_copy : (c : List ℕ) (start to by : ℕ) {d : List ℕ} → start ≤ to → to + by ≤ length c → d ≡ copy_within c start to (start + by) → Moved c d start to by
+moved_copy c start to by h l e =
+    let n = to - start in
+    let u : start + by + n ≡ to + by = omega arith in
+    let v : start + n ≡ to = omega arith in
+    let w : slice start to c ≡ take n (drop start c) = ap (λ k. drop start (take k c)) (sym v) ∙ drop-take start n c in
+    record { is = e ∙ rw (w, u) refl }
 
 -- a put leaves what is before it and behind it
 before_put : {a c : List ℕ} {o q : ℕ} {x : List ℕ} (k : ℕ) → Put a c o q x → q ≤ length a → k ≤ o → take k c ≡ take k a
@@ -149,10 +124,10 @@ pub steps_fewer : {b : List ℕ} {i n : ℕ} → Steps b i n → length (records
 steps_fewer {b} {i} {n} f = rw f.is (omega (arith, length-append f.taken (records_from b n)))
 
 -- nothing is made
-pub makes_none : (b a : List ℕ) (i o : ℕ) → i ≤ length b → o ≤ length a → Makes b a a i o (gives [] (records_from b i)) (Took i o)
-makes_none b a i o h l = makes refl (put_none a o) (steps_none b i h) l
+pub makes_none : (b a : List ℕ) (x : Made) → x.next ≤ length b → x.end ≤ length a → Makes b a a x.next x.end (gives [] (records_from b x.next)) (Ok x)
+makes_none b a x h l = makes refl (put_none a x.end) (steps_none b x.next h) l
 
-module _ {b a c : List ℕ} {i o : ℕ} {w : Rendered} {r : Made} (m : Makes b a c i o w r) where
+module _ {b a c : List ℕ} {i o : ℕ} {w : Rendered} {r : Answer} (m : Makes b a c i o w r) where
   -- the same, by an equal name
   pub makes_as : {v : Rendered} → w ≡ v → Makes b a c i o v r
   makes_as e = rw e at m
@@ -160,66 +135,81 @@ module _ {b a c : List ℕ} {i o : ℕ} {w : Rendered} {r : Made} (m : Makes b a
   pub makes_same : length c ≡ length a
   makes_same = go m
     where
-      go : {w : Rendered} {r : Made} → Makes b a c i o w r → length c ≡ length a
+      go : {w : Rendered} {r : Answer} → Makes b a c i o w r → length c ≡ length a
       go (makes _ f _ _) = put_length f
       go (breaks _ e) = e
 
-  module _ {n q : ℕ} (z : r ≡ Took n q) where
-    was : Makes b a c i o w (Took n q)
-    was = rw z at m
-
-    pub made_steps : Steps b i n
-    made_steps = go was
-      where
-        go : {w : Rendered} → Makes b a c i o w (Took n q) → Steps b i n
-        go (makes _ _ s _) = s
-
-    pub made_left : w.left ≡ records_from b n
-    made_left = go was
-      where
-        go : {w : Rendered} → Makes b a c i o w (Took n q) → w.left ≡ records_from b n
-        go (makes l _ _ _) = l
-
-    pub made_put : Put a c o q w.bytes
-    made_put = go was
-      where
-        go : {w : Rendered} → Makes b a c i o w (Took n q) → Put a c o q w.bytes
-        go (makes _ f _ _) = f
-
-    pub made_room : q ≤ length c
-    made_room = go was
-      where
-        go : {w : Rendered} → Makes b a c i o w (Took n q) → q ≤ length c
-        go (makes _ f _ h) = omega (arith, put_length f)
-
-    pub made_high : n ≤ length b
-    made_high = made_steps.high
-
-    pub made_from : o ≤ q
-    made_from = omega (arith, made_put.at)
-
-  pub made_long : r ≡ Long → length a < o + length w.bytes
-  made_long z = go (rw z at m)
-    where
-      go : {w : Rendered} → Makes b a c i o w Long → length a < o + length w.bytes
-      go (breaks h _) = h
-
 -- what comes next has the room that was there
-pub made_small : {b a c : List ℕ} {i o : ℕ} {w : Rendered} {r : Made} → Makes b a c i o w r → length a ≤ 32768 → length c ≤ 32768
+pub made_small : {b a c : List ℕ} {i o : ℕ} {w : Rendered} {r : Answer} → Makes b a c i o w r → length a ≤ 32768 → length c ≤ 32768
 made_small m h = omega (arith, makes_same m)
 
--- one part, then another
-module _ (p q : Renderer) (rs : List Rec) {b a c : List ℕ} {i o : ℕ} {r : Made} (m : Makes b a c i o (p rs) r) where
-  pub then_long : r ≡ Long → Makes b a c i o ((p next q) rs) Long
-  then_long z = breaks {w = (p next q) rs} (omega (arith, made_long m z, length-append (p rs).bytes (q (p rs).left).bytes)) (makes_same m)
+-- as it goes on
+module _ {b a c : List ℕ} {i o : ℕ} {w : Rendered} {x : Made} (m : Makes b a c i o w (Ok x)) where
+  pub made_steps : Steps b i x.next
+  made_steps = go m
+    where
+      go : {w : Rendered} → Makes b a c i o w (Ok x) → Steps b i x.next
+      go (makes _ _ s _) = s
 
-  module _ {n t : ℕ} (z : r ≡ Took n t) where
-    pub then_took : {d : List ℕ} {s : Made} → Makes b c d n t (q (records_from b n)) s → Makes b a d i o ((p next q) rs) s
-    then_took {d} {s} k = go (rw (← made_left m z) at k)
-      where
-        go : {s : Made} → Makes b c d n t (q (p rs).left) s → Makes b a d i o ((p next q) rs) s
-        go (makes l f e h) = makes l (put_put (made_put m z) f) (steps_then (made_steps m z) e) (omega (arith, makes_same m))
-        go (breaks h e) = breaks {w = (p next q) rs} (omega (arith, (made_put m z).at, makes_same m, length-append (p rs).bytes (q (p rs).left).bytes)) (e ∙ makes_same m)
+  pub made_left : w.left ≡ records_from b x.next
+  made_left = go m
+    where
+      go : {w : Rendered} → Makes b a c i o w (Ok x) → w.left ≡ records_from b x.next
+      go (makes l _ _ _) = l
+
+  pub made_put : Put a c o x.end w.bytes
+  made_put = go m
+    where
+      go : {w : Rendered} → Makes b a c i o w (Ok x) → Put a c o x.end w.bytes
+      go (makes _ f _ _) = f
+
+  pub made_room : x.end ≤ length c
+  made_room = go m
+    where
+      go : {w : Rendered} → Makes b a c i o w (Ok x) → x.end ≤ length c
+      go (makes _ f _ h) = omega (arith, put_length f)
+
+  pub made_high : x.next ≤ length b
+  made_high = made_steps.high
+
+  pub made_from : o ≤ x.end
+  made_from = omega (arith, made_put.at)
+
+  -- what comes next has its places, too
+  pub making : length b ≤ 131072 → length a ≤ 32768 → Making b x.next c x.end
+  making h l = (made_high, h, made_room, made_small m l)
+
+-- where it leaves
+module _ {b a c : List ℕ} {i o : ℕ} {w : Rendered} {x : TooLong} (m : Makes b a c i o w (Err x)) where
+  pub made_long : length a < o + length w.bytes
+  made_long = go m
+    where
+      go : {w : Rendered} → Makes b a c i o w (Err x) → length a < o + length w.bytes
+      go (breaks h _) = h
+
+  -- what a `?` answers there
+  pub made_left_by : {r : Answer} → IsErr r × IsErrAnd r (λ y. y ≡ x) → Makes b a c i o w r
+  made_left_by e = rw (← leaves e) at m
+
+-- one part, then another
+module _ (p q : Renderer) (rs : List Rec) {b a c : List ℕ} {i o : ℕ} where
+  pub then_long : {x : TooLong} → Makes b a c i o (p rs) (Err x) → Makes b a c i o ((p next q) rs) (Err x)
+  then_long m = breaks {w = (p next q) rs} (omega (arith, made_long m, length-append (p rs).bytes (q (p rs).left).bytes)) (makes_same m)
+
+  pub then_took : {x : Made} {d : List ℕ} {s : Answer} → Makes b a c i o (p rs) (Ok x) → Makes b c d x.next x.end (q (records_from b x.next)) s → Makes b a d i o ((p next q) rs) s
+  then_took {x} {d} m k = go (rw (← made_left m) at k)
+    where
+      go : {s : Answer} → Makes b c d x.next x.end (q (p rs).left) s → Makes b a d i o ((p next q) rs) s
+      go (makes l f e h) = makes l (put_put (made_put m) f) (steps_then (made_steps m) e) (omega (arith, makes_same m))
+      go (breaks h e) = breaks {w = (p next q) rs} (omega (arith, (made_put m).at, makes_same m, length-append (p rs).bytes (q (p rs).left).bytes)) (e ∙ makes_same m)
+
+-- from the records of a place
+module _ (p q : Renderer) {b a c : List ℕ} {i o : ℕ} where
+  pub next_long : {x : TooLong} → Makes b a c i o (p (records_from b i)) (Err x) → Makes b a c i o ((p next q) (records_from b i)) (Err x)
+  next_long = then_long p q (records_from b i)
+
+  pub next_took : {x : Made} {d : List ℕ} {s : Answer} → Makes b a c i o (p (records_from b i)) (Ok x) → Makes b c d x.next x.end (q (records_from b x.next)) s → Makes b a d i o ((p next q) (records_from b i)) s
+  next_took = then_took p q (records_from b i)
 
 -- ---- what stands in front of contents
 module _ {len o k : ℕ} where
@@ -244,85 +234,94 @@ module _ {len o k : ℕ} where
   behind begins q h l = refl
   behind (lacks g) q h l = absurd (omega arith)
 
-pub made_ended : {b a c : List ℕ} {i o : ℕ} {w : Rendered} {m : Made} → Makes b a c i o w m → Ended (length c) m
-made_ended f = record { is = λ n q z. made_room f z }
+pub made_ended : {b a c : List ℕ} {i o : ℕ} {w : Rendered} {m : Answer} → Makes b a c i o w m → Ended (length c) m
+made_ended {b} {a} {c} {i} {o} {w} f = record { is = λ x z. made_room {w = w} (rw z at f) }
 
 -- contents with what stands in front of them
-module _ {b a c d : List ℕ} {i o k r : ℕ} {f : List ℕ → List ℕ} {w : Rendered} {m s : Made} (h : Opened (length a) o k r) (g : Makes b a c i r w m) (e : Closed c d o k f m s) where
-  pub closed_made : Makes b a d i o (gives (f w.bytes) w.left) s
-  closed_made = e.is b a i r w h g
+pub closed_made : {b a c d : List ℕ} {i o k r : ℕ} {f : List ℕ → List ℕ} {w : Rendered} {m s : Answer} → Opened (length a) o k r → Makes b a c i r w m → Closed c d o k f m s → Makes b a d i o (gives (f w.bytes) w.left) s
+closed_made {b} {a} {i = i} {r = r} {w = w} h g e = e.is b a i r w h g
 
-  module _ {n q : ℕ} (z : s ≡ Took n q) where
-    pub closed_steps : Steps b i n
-    closed_steps = made_steps closed_made z
+module _ {b a c d : List ℕ} {i o k r : ℕ} {f : List ℕ → List ℕ} {w : Rendered} {m : Answer} {x : Made} (h : Opened (length a) o k r) (g : Makes b a c i r w m) (e : Closed c d o k f m (Ok x)) where
+  pub closed_steps : Steps b i x.next
+  closed_steps = made_steps (closed_made h g e)
 
-    -- what comes next has its places
-    pub closed_next : length b ≤ 131072 → length a ≤ 32768 → Making b n d q
-    closed_next u v = (made_high closed_made z, u, made_room closed_made z, made_small closed_made v)
+  -- what comes next has its places
+  pub closed_next : length b ≤ 131072 → length a ≤ 32768 → Making b x.next d x.end
+  closed_next u v = making (closed_made h g e) u v
 
-module _ {c : List ℕ} {o k : ℕ} {f : List ℕ → List ℕ} (grows : (x : List ℕ) → k + length x ≤ length (f x)) {m : Made} where
-  pub closed_none : m ≡ Long → Closed c c o k f m Long
-  closed_none z = record { is = λ b a i r w h g. breaks {w = gives (f w.bytes) w.left} (over h (length w.bytes) (length (f w.bytes)) (made_long g z) (grows w.bytes)) (makes_same g) }
+module _ {c : List ℕ} {o k : ℕ} {f : List ℕ → List ℕ} (grows : (x : List ℕ) → k + length x ≤ length (f x)) where
+  pub closed_none : {x y : TooLong} → Closed c c o k f (Err x) (Err y)
+  closed_none = record { is = λ b a i r w h g. breaks {w = gives (f w.bytes) w.left} (over h (length w.bytes) (length (f w.bytes)) (made_long g) (grows w.bytes)) (makes_same g) }
 
-  pub closed_short : {n q : ℕ} → m ≡ Took n q → q < o + k → Closed c c o k f m Long
-  closed_short {n} {q} z l = record { is = λ b a i r w h g. breaks {w = gives (f w.bytes) w.left} (omega (arith, before h q (made_from g z) l, grows w.bytes)) (makes_same g) }
+  pub closed_short : {x : Made} {y : TooLong} → x.end < o + k → Closed c c o k f (Ok x) (Err y)
+  closed_short {x} l = record { is = λ b a i r w h g. breaks {w = gives (f w.bytes) w.left} (omega (arith, before h x.end (made_from g) l, grows w.bytes)) (makes_same g) }
 
-contents : {b a c : List ℕ} {i o k r n q : ℕ} {w : Rendered} {m : Made} → Opened (length a) o k r → Makes b a c i r w m → m ≡ Took n q → o + k ≤ q → Put a c (o + k) q w.bytes
-contents {q = q} h g z l = rw (behind h q l (omega (arith, made_room g z, makes_same g))) at (made_put g z)
+contents : {b a c : List ℕ} {i o k r : ℕ} {x : Made} {w : Rendered} → Opened (length a) o k r → Makes b a c i r w (Ok x) → o + k ≤ x.end → Put a c (o + k) x.end w.bytes
+contents {x = x} h g l = rw (behind h x.end l (omega (arith, made_room g, makes_same g))) at (made_put g)
 
 -- bytes in front that tell the contents' length, just as many as there is room for
 module _ (k : ℕ) (f : ℕ → List ℕ) (sized : (n : ℕ) → length (f n) ≡ k) where
   pub front_grows : (x : List ℕ) → k + length x ≤ length (f (length x) ++ x)
   front_grows x = omega (arith, sized (length x), length-append (f (length x)) x)
 
-  pub closed_front : (c : List ℕ) (o : ℕ) {m : Made} {n q p : ℕ} {d : List ℕ} → Ended (length c) m → m ≡ Took n q → o + k ≤ q → Put c d o p (f (q - (o + k))) → Closed c d o k (λ x. f (length x) ++ x) m (Took n q)
-  closed_front c o {m} {n} {q} {p} {d} l z h g = record {
+  pub closed_front : (c : List ℕ) (o : ℕ) {x : Made} {p : ℕ} {d : List ℕ} → Ended (length c) (Ok x) → o + k ≤ x.end → Put c d o p (f (x.end - (o + k))) → Closed c d o k (λ s. f (length s) ++ s) (Ok x) (Ok x)
+  closed_front c o {x} {p} {d} l h g = record {
     is = λ b a i r w t e.
-        let u = contents t e z h in
-        let s : q ≤ length a = omega (arith, l.is n q z, makes_same e) in
-        let x : q - (o + k) ≡ length w.bytes = omega (arith, u.at) in
-        let v : q + 0 ≡ q = omega arith in
-        let y = closed_up k 0 (f (q - (o + k))) u s (omega arith) (omega (arith, sized (q - (o + k)))) (moved_same c (o + k) q 0 refl h (omega (arith, l.is n q z))) g in
-        makes {w = gives (f (length w.bytes) ++ w.bytes) w.left} (made_left e z) (rw (v, x) at y) (made_steps e z) s;
+        let u = contents t e h in
+        let s : x.end ≤ length a = omega (arith, l.is x refl, makes_same e) in
+        let y : x.end - (o + k) ≡ length w.bytes = omega (arith, u.at) in
+        let v : x.end + 0 ≡ x.end = omega arith in
+        let z = closed_up k 0 (f (x.end - (o + k))) u s (omega arith) (omega (arith, sized (x.end - (o + k)))) (moved_same c (o + k) x.end 0 refl h (omega (arith, l.is x refl))) g in
+        makes {w = gives (f (length w.bytes) ++ w.bytes) w.left} (made_left e) (rw (v, y) at z) (made_steps e) s;
   }
 
 -- an element's header
 pub wrap_grows : (tag : ℕ) (x : List ℕ) → 2 + length x ≤ length (wrap tag x)
 wrap_grows tag x = omega (arith, wrap_length tag x, shortest_some (length x))
 
-module _ (c : List ℕ) (o tag : ℕ) {m : Made} {n q h : ℕ} (z : m ≡ Took n q) (e : h ≡ 1 + length (shortest (q - (o + 2)))) (l : o + 2 ≤ q) where
+module _ (c : List ℕ) (o tag : ℕ) {x : Made} {h : ℕ} (e : h ≡ 1 + length (shortest (x.end - (o + 2)))) (l : o + 2 ≤ x.end) where
   -- it does not fit
-  pub closed_long : length c < q + (h - 2) → 2 ≤ h → Closed c c o 2 (wrap tag) m Long
+  pub closed_long : {y : TooLong} → length c < x.end + (h - 2) → 2 ≤ h → Closed c c o 2 (wrap tag) (Ok x) (Err y)
   closed_long s t = record {
     is = λ b a i r w u g.
-        let f = contents u g z l in
-        let x : length w.bytes ≡ q - (o + 2) = omega (arith, f.at) in
-        let y : length (wrap tag w.bytes) ≡ h + length w.bytes = wrap_length tag w.bytes ∙ rw (x, ← e) refl in
+        let f = contents u g l in
+        let z : length w.bytes ≡ x.end - (o + 2) = omega (arith, f.at) in
+        let y : length (wrap tag w.bytes) ≡ h + length w.bytes = wrap_length tag w.bytes ∙ rw (z, ← e) refl in
         breaks {w = gives (wrap tag w.bytes) w.left} (omega (arith, makes_same g, f.at)) (makes_same g);
   }
 
   -- it fits
-  pub closed_moved : {c' d : List ℕ} {p : ℕ} → 2 ≤ h → q + (h - 2) ≤ length c → Moved c c' (o + 2) q (h - 2) → Put c' d o p (tag ∷ shortest (q - (o + 2))) → Closed c d o 2 (wrap tag) m (Took n (q + (h - 2)))
+  pub closed_moved : {c' d : List ℕ} {p : ℕ} → 2 ≤ h → x.end + (h - 2) ≤ length c → Moved c c' (o + 2) x.end (h - 2) → Put c' d o p (tag ∷ shortest (x.end - (o + 2))) → Closed c d o 2 (wrap tag) (Ok x) (Ok (record { next = x.next; end = x.end + (h - 2) }))
   unfolding wrap
   closed_moved {c'} {d} {p} t s v k = record {
     is = λ b a i r w u g.
-        let f = contents u g z l in
-        let x : length w.bytes ≡ q - (o + 2) = omega (arith, f.at) in
-        let y = closed_up 2 (h - 2) (tag ∷ shortest (q - (o + 2))) f (omega (arith, makes_same g)) (omega (arith, makes_same g)) (omega arith) v k in
-        makes {w = gives (wrap tag w.bytes) w.left} (made_left g z) (rw (← x) at y) (made_steps g z) (omega (arith, makes_same g));
+        let f = contents u g l in
+        let z : length w.bytes ≡ x.end - (o + 2) = omega (arith, f.at) in
+        let y = closed_up 2 (h - 2) (tag ∷ shortest (x.end - (o + 2))) f (omega (arith, makes_same g)) (omega (arith, makes_same g)) (omega arith) v k in
+        makes {w = gives (wrap tag w.bytes) w.left} (made_left g) (rw (← z) at y) (made_steps g) (omega (arith, makes_same g));
   }
 
 -- contents with their header
-pub within_made : (tag : ℕ) (x : List ℕ) (l : List Rec) {b a c d : List ℕ} {i o r : ℕ} {m s : Made} → Opened (length a) o 2 r → Makes b a c i r (gives x l) m → Closed c d o 2 (wrap tag) m s → Makes b a d i o (gives (wrap tag x) l) s
+pub within_made : (tag : ℕ) (x : List ℕ) (l : List Rec) {b a c d : List ℕ} {i o r : ℕ} {m s : Answer} → Opened (length a) o 2 r → Makes b a c i r (gives x l) m → Closed c d o 2 (wrap tag) m s → Makes b a d i o (gives (wrap tag x) l) s
 within_made tag x l h g e = closed_made h g e
 
+-- an element around what a maker of contents has made
+pub enclosed : (q : Renderer) {gave : Gives} {b a d : List ℕ} {i o k : ℕ} {f : List ℕ → List ℕ} {s : Answer} → Enclosed gave a d i o k f s → MakesIn gave b q → Makes b a d i o (gives (f (q (records_from b i)).bytes) (q (records_from b i)).left) s
+enclosed q (x, out, m, out', g, e, n, h, c) t = closed_made h (rw (e, n) at (t x out m out' g)) c
+
 -- with what stands in front of them, contents take what they take
-pub closed_onward : {f : List ℕ → List ℕ} {k : ℕ} → ((x : List ℕ) → k + length x ≤ length (f x)) → {b a c d : List ℕ} {i o r : ℕ} {w : Rendered} {m s : Made} → Opened (length a) o k r → Makes b a c i r w m → Onward b i m → Closed c d o k f m s → Onward b i s
-closed_onward {f} {k} grows {b} {a} {c} {d} {i} {o} {r} {w} {m} {s} h g u e = record { is = λ n q z. go g u (closed_made h g e) z }
+pub closed_onward : {f : List ℕ → List ℕ} {k : ℕ} → ((x : List ℕ) → k + length x ≤ length (f x)) → {b a c d : List ℕ} {i o r : ℕ} {w : Rendered} {m s : Answer} → Opened (length a) o k r → Makes b a c i r w m → Onward b i m → Closed c d o k f m s → Onward b i s
+closed_onward {f} {k} grows {b} {a} {c} {d} {i} {o} {r} {w} {m} {s} h g u e = record { is = λ x z. go g u (rw z at (closed_made h g e)) }
   where
-    go : {w : Rendered} {m : Made} {n q : ℕ} → Makes b a c i r w m → Onward b i m → Makes b a d i o (gives (f w.bytes) w.left) s → s ≡ Took n q → length (records_from b n) < length (records_from b i)
-    go (makes {n = x} {q = y} l _ _ _) u v z = rw (sym (made_left v z) ∙ l) (u.is x y refl)
-    go (breaks {w} l _) u v z = absurd (omega (arith, (made_put v z).at, made_room v z, makes_same v, over h (length w.bytes) (length (f w.bytes)) l (grows w.bytes)))
+    go : {w : Rendered} {m : Answer} {x : Made} → Makes b a c i r w m → Onward b i m → Makes b a d i o (gives (f w.bytes) w.left) (Ok x) → length (records_from b x.next) < length (records_from b i)
+    go (makes {x = y} l _ _ _) u v = rw (sym (made_left v) ∙ l) (u.is y refl)
+    go (breaks {w} l _) u v = absurd (omega (arith, (made_put v).at, made_room v, makes_same v, over h (length w.bytes) (length (f w.bytes)) l (grows w.bytes)))
+
+-- so does what is around what a maker of contents has made
+pub enclosed_onward : (q : Renderer) {gave : Gives} {b a d : List ℕ} {i o k : ℕ} {f : List ℕ → List ℕ} {s : Answer} → ((x : List ℕ) → k + length x ≤ length (f x)) → Enclosed gave a d i o k f s → ((x : Made) (out : MutBor (List ℕ)) (m : Answer) (out' : MutBor (List ℕ)) → gave x out m out' → Makes b out.now out'.now x.next x.end (q (records_from b x.next)) m × Onward b x.next m) → Onward b i s
+enclosed_onward q grows (x, out, m, out', g, e, n, h, c) t =
+    let p = t x out m out' g in
+    closed_onward grows h (rw (e, n) at p.0) (rw n at p.1) c
 
 -- one kind is a list of one
 pub next_one : (k : ℕ) (rs : List Rec) {t : Bool} → t ≡ next_is k rs → t ≡ next_among (k ∷ []) rs
@@ -344,17 +343,17 @@ module _ (ks : List ℕ) (p : Renderer) where
   when_not (r ∷ rs) q = rw q refl
 
 module _ (ks : List ℕ) (p : Renderer) (b : List ℕ) (i : ℕ) {t : Bool} (e : t ≡ next_among ks (records_from b i)) where
-  pub among_yes : {a c : List ℕ} {o : ℕ} {r : Made} → t ≡ true → Makes b a c i o (p (records_from b i)) r → Makes b a c i o (when ks p (records_from b i)) r
+  pub among_yes : {a c : List ℕ} {o : ℕ} {r : Answer} → t ≡ true → Makes b a c i o (p (records_from b i)) r → Makes b a c i o (when ks p (records_from b i)) r
   among_yes z m = makes_as m (sym (when_is ks p (records_from b i) (sym e ∙ z)))
 
-  pub among_no : {a : List ℕ} {o : ℕ} → t ≡ false → i ≤ length b → o ≤ length a → Makes b a a i o (when ks p (records_from b i)) (Took i o)
-  among_no {a} {o} z h l = makes_as (makes_none b a i o h l) (sym (when_not ks p (records_from b i) (sym e ∙ z)))
+  pub among_no : {a : List ℕ} {o : ℕ} → t ≡ false → i ≤ length b → o ≤ length a → Makes b a a i o (when ks p (records_from b i)) (Ok (record { next = i; end = o }))
+  among_no {a} {o} z h l = makes_as (makes_none b a (record { next = i; end = o }) h l) (sym (when_not ks p (records_from b i) (sym e ∙ z)))
 
 module _ (k : ℕ) (p : Renderer) (b : List ℕ) (i : ℕ) {t : Bool} (e : t ≡ next_is k (records_from b i)) where
-  pub when_yes : {a c : List ℕ} {o : ℕ} {r : Made} → t ≡ true → Makes b a c i o (p (records_from b i)) r → Makes b a c i o (when (k ∷ []) p (records_from b i)) r
+  pub when_yes : {a c : List ℕ} {o : ℕ} {r : Answer} → t ≡ true → Makes b a c i o (p (records_from b i)) r → Makes b a c i o (when (k ∷ []) p (records_from b i)) r
   when_yes z m = among_yes (k ∷ []) p b i (next_one k (records_from b i) e) z m
 
-  pub when_no : {a : List ℕ} {o : ℕ} → t ≡ false → i ≤ length b → o ≤ length a → Makes b a a i o (when (k ∷ []) p (records_from b i)) (Took i o)
+  pub when_no : {a : List ℕ} {o : ℕ} → t ≡ false → i ≤ length b → o ≤ length a → Makes b a a i o (when (k ∷ []) p (records_from b i)) (Ok (record { next = i; end = o }))
   when_no z h l = among_no (k ∷ []) p b i (next_one k (records_from b i) e) z h l
 
 -- one way or the other by the next record
@@ -367,10 +366,10 @@ module _ (k : ℕ) (q p : Renderer) (b : List ℕ) (i : ℕ) {t : Bool} (e : t �
   either_not [] z = refl
   either_not (x ∷ rs) z = rw z refl
 
-  pub either_yes : {a c : List ℕ} {o : ℕ} {r : Made} → t ≡ true → Makes b a c i o (q (records_from b i)) r → Makes b a c i o (either (k ∷ []) q p (records_from b i)) r
+  pub either_yes : {a c : List ℕ} {o : ℕ} {r : Answer} → t ≡ true → Makes b a c i o (q (records_from b i)) r → Makes b a c i o (either (k ∷ []) q p (records_from b i)) r
   either_yes z m = makes_as m (sym (either_is (records_from b i) (sym e ∙ z)))
 
-  pub either_no : {a c : List ℕ} {o : ℕ} {r : Made} → t ≡ false → Makes b a c i o (p (records_from b i)) r → Makes b a c i o (either (k ∷ []) q p (records_from b i)) r
+  pub either_no : {a c : List ℕ} {o : ℕ} {r : Answer} → t ≡ false → Makes b a c i o (p (records_from b i)) r → Makes b a c i o (either (k ∷ []) q p (records_from b i)) r
   either_no z m = makes_as m (sym (either_not (records_from b i) (sym e ∙ z)))
 
 -- what holds of either way holds of the one that is taken
@@ -389,34 +388,38 @@ pub next_there : (b : List ℕ) (i k : ℕ) {t : Bool} → t ≡ next_is k (reco
 next_there b i k e z = among_there b i (k ∷ []) (next_one k (records_from b i) e) z
 
 -- from the next record
-pub from_none : (f : ℕ → List ℕ → Renderer) {b a : List ℕ} {i o : ℕ} → length b < i + 4 → i ≤ length b → o ≤ length a → Makes b a a i o (from f (records_from b i)) (Took i o)
-from_none f {b} {a} {i} {o} h l m = let e = from_few b i h in makes_as (makes_none b a i o l m) (rw e refl)
+pub from_none : (f : ℕ → List ℕ → Renderer) {b a : List ℕ} {i o : ℕ} → length b < i + 4 → i ≤ length b → o ≤ length a → Makes b a a i o (from f (records_from b i)) (Ok (record { next = i; end = o }))
+from_none f {b} {a} {i} {o} h l m = let e = from_few b i h in makes_as (makes_none b a (record { next = i; end = o }) l m) (rw e refl)
 
 -- what is made of the records behind the next one, with that one taken
-pub makes_behind : {b a c : List ℕ} {i e o : ℕ} {w : Rendered} {r : Made} → Ends b i e → Makes b a c e o w r → Makes b a c i o w r
+pub makes_behind : {b a c : List ℕ} {i e o : ℕ} {w : Rendered} {r : Answer} → Ends b i e → Makes b a c e o w r → Makes b a c i o w r
 makes_behind h (makes l p s q) = makes l p (steps_then (steps_one h) s) q
 makes_behind h (breaks l q) = breaks l q
 
-pub from_some : (f : ℕ → List ℕ → Renderer) {b a c : List ℕ} {i e o : ℕ} {r : Made} → Ends b i e → Makes b a c e o (f (two b (i + 2)) (slice (i + 4) e b) (records_from b e)) r → Makes b a c i o (from f (records_from b i)) r
+pub from_some : (f : ℕ → List ℕ → Renderer) {b a c : List ℕ} {i e o : ℕ} {r : Answer} → Ends b i e → Makes b a c e o (f (two b (i + 2)) (slice (i + 4) e b) (records_from b e)) r → Makes b a c i o (from f (records_from b i)) r
 from_some f h m = rw h.is (makes_behind h m)
 
 -- bytes that are put for one record
 module _ {b a c : List ℕ} {o q : ℕ} {x : List ℕ} (f : Put a c o q x) where
-  pub puts_took : {e : ℕ} → e ≤ length b → q ≤ length c → Makes b a c e o (gives x (records_from b e)) (Took e q)
+  pub puts_took : {e : ℕ} → e ≤ length b → q ≤ length c → Makes b a c e o (gives x (records_from b e)) (Ok (record { next = e; end = q }))
   puts_took {e} h l = makes refl f (steps_none b e h) (omega (arith, put_length f))
 
-  pub puts_long : (i : ℕ) (rs : List Rec) → length c < q → Makes b a c i o (gives x rs) Long
+  pub puts_long : (i : ℕ) (rs : List Rec) {y : TooLong} → length c < q → Makes b a c i o (gives x rs) (Err y)
   puts_long i rs l = breaks {w = gives x rs} (omega (arith, f.at, put_length f)) (put_length f)
 
 -- bytes that are put, then a part
-pub put_made : {b a c d : List ℕ} {i o q : ℕ} {x : List ℕ} {w : Rendered} {r : Made} → Put a c o q x → Makes b c d i q w r → Makes b a d i o (gives (x ++ w.bytes) w.left) r
+pub put_made : {b a c d : List ℕ} {i o q : ℕ} {x : List ℕ} {w : Rendered} {r : Answer} → Put a c o q x → Makes b c d i q w r → Makes b a d i o (gives (x ++ w.bytes) w.left) r
 put_made f (makes l g s h) = makes l (put_put f g) s (omega (arith, put_length f))
 put_made {x = x} f (breaks {w} h e) = breaks {w = gives (x ++ w.bytes) w.left} (omega (arith, f.at, put_length f, length-append x w.bytes)) (e ∙ put_length f)
 
 -- at least one record is taken
-pub onward_one : {b : List ℕ} {i e : ℕ} {r : Made} → Ends b i e → ((n q : ℕ) → r ≡ Took n q → Steps b e n) → Onward b i r
-onward_one {b} {i} {e} h s = record { is = λ n q z. rw h.is (omega (arith, steps_fewer (s n q z))) }
+pub onward_one : {b : List ℕ} {i e : ℕ} {r : Answer} → Ends b i e → ((x : Made) → r ≡ Ok x → Steps b e x.next) → Onward b i r
+onward_one {b} {i} {e} h s = record { is = λ x z. rw h.is (omega (arith, steps_fewer (s x z))) }
 
 -- so does an element with what is behind the next record
-pub onward_closed : {b a c d : List ℕ} {i e o k r : ℕ} {f : List ℕ → List ℕ} {w : Rendered} {m s : Made} → Ends b i e → Opened (length a) o k r → Makes b a c e r w m → Closed c d o k f m s → Onward b i s
-onward_closed h t g u = onward_one h (λ n q z. closed_steps t g u z)
+pub onward_closed : {b a c d : List ℕ} {i e o k r : ℕ} {f : List ℕ → List ℕ} {w : Rendered} {m s : Answer} → Ends b i e → Opened (length a) o k r → Makes b a c e r w m → Closed c d o k f m s → Onward b i s
+onward_closed h t g u = onward_one h (λ x z. closed_steps t g (rw z at u))
+
+-- so does what is made of the records behind the next one
+pub onward_behind : {b a c : List ℕ} {i e o : ℕ} {w : Rendered} {r : Answer} → Ends b i e → Makes b a c e o w r → Onward b i r
+onward_behind {w = w} h m = onward_one h (λ x z. made_steps {w = w} (rw z at m))

@@ -1,28 +1,28 @@
 -- Parts that are made one after the other: three of them, or as many as the next record's kind calls for.
 use Prim.Native.Nat.{ℕ, zero, suc, ◌-◌, ◌<◌, ◌≤◌}
-use Rattle.std.specs.Prelude.{◌≡◌, refl, Bool, true, false, List, [], ◌∷◌, length}
+use Rattle.std.specs.Prelude.{◌≡◌, refl, Bool, true, false, List, [], ◌∷◌, length, Ok, Err}
 use Rattle.std.proofs.Common.{sym, ◌∙◌, arith}
 use Rattle.elements.specs.ChoiceLaws.{by_choose}
 use Rattle.elements.specs.Sealed.{among}
 use Rattle.makers.specs.declared.made.Made.{Made}
-use Rattle.makers.specs.declared.made.Made.TheVariants.{Took, Long}
+use Rattle.makers.specs.declared.made.TooLong.{TooLong}
 use Rattle.rules.specs.Reading.{Rec}
 use Rattle.rules.specs.Render.{Rendered, gives, Renderer, ◌next◌, when, from, plain, r_keep, r_many, r_all, r_times}
 use Rattle.rules.specs.Book.{records_from}
-use Rattle.makers.specs.Making.{Makes, Onward, next_among}
-use Rattle.makers.specs.MadeLaws.{makes_none, makes_as, makes_same, made_high, made_room, then_long, then_took, among_yes, among_no}
+use Rattle.makers.specs.Making.{Answer, Makes, Onward, next_among}
+use Rattle.makers.specs.MadeLaws.{makes_none, makes_as, makes_same, made_high, made_room, next_long, next_took, among_yes, among_no}
 
 -- ---- three parts
-module _ (p q s : Renderer) {b a c : List ℕ} {i o : ℕ} {r : Made} (m : Makes b a c i o (p (records_from b i)) r) where
-  pub three_first : r ≡ Long → Makes b a c i o ((p next q next s) (records_from b i)) Long
-  three_first z = then_long (p next q) s (records_from b i) (then_long p q (records_from b i) m z) refl
+module _ (p q s : Renderer) {b a c : List ℕ} {i o : ℕ} where
+  pub three_first : {x : TooLong} → Makes b a c i o (p (records_from b i)) (Err x) → Makes b a c i o ((p next q next s) (records_from b i)) (Err x)
+  three_first m = next_long (p next q) s (next_long p q m)
 
-  module _ {n t : ℕ} (z : r ≡ Took n t) {d : List ℕ} {u : Made} (k : Makes b c d n t (q (records_from b n)) u) where
-    pub three_second : u ≡ Long → Makes b a d i o ((p next q next s) (records_from b i)) Long
-    three_second w = then_long (p next q) s (records_from b i) (then_took p q (records_from b i) m z k) w
+  module _ {x : Made} (m : Makes b a c i o (p (records_from b i)) (Ok x)) {d : List ℕ} where
+    pub three_second : {y : TooLong} → Makes b c d x.next x.end (q (records_from b x.next)) (Err y) → Makes b a d i o ((p next q next s) (records_from b i)) (Err y)
+    three_second k = next_long (p next q) s (next_took p q m k)
 
-    pub three_third : {e : List ℕ} {x y : ℕ} {v : Made} → u ≡ Took x y → Makes b d e x y (s (records_from b x)) v → Makes b a e i o ((p next q next s) (records_from b i)) v
-    three_third w l = then_took (p next q) s (records_from b i) (then_took p q (records_from b i) m z k) w l
+    pub three_third : {e : List ℕ} {y : Made} {v : Answer} → Makes b c d x.next x.end (q (records_from b x.next)) (Ok y) → Makes b d e y.next y.end (s (records_from b y.next)) v → Makes b a e i o ((p next q next s) (records_from b i)) v
+    three_third k l = next_took (p next q) s (next_took p q m k) l
 
 -- ---- no part leaves more records than there are
 abbrev pub Fewer : Renderer → Type 0
@@ -58,45 +58,45 @@ unfolding r_many
 many_more ks q zero rs h = absurd (omega arith)
 many_more ks q (suc g) rs h = let u : suc g - 1 ≡ g = omega arith in rw u refl
 
--- what the turns that are left make from n and t on completes the whole
-pub record Repeating (b ks : List ℕ) (q : Renderer) (a c : List ℕ) (i o n t : ℕ) : Type 0 where
+-- what the turns that are left make from x on completes the whole
+pub record Repeating (b ks : List ℕ) (q : Renderer) (a c : List ℕ) (i o : ℕ) (x : Made) : Type 0 where
   pub turns : ℕ
-  pub enough : length (records_from b n) ≤ turns
-  pub is : (d : List ℕ) (s : Made) → Makes b c d n t (r_many ks q turns (records_from b n)) s → Makes b a d i o (r_all ks q (records_from b i)) s
-  pub high : n ≤ length b
-  pub room : t ≤ length c
+  pub enough : length (records_from b x.next) ≤ turns
+  pub is : (d : List ℕ) (s : Answer) → Makes b c d x.next x.end (r_many ks q turns (records_from b x.next)) s → Makes b a d i o (r_all ks q (records_from b i)) s
+  pub high : x.next ≤ length b
+  pub room : x.end ≤ length c
   pub same : length c ≡ length a
 
-pub repeating_start : (b ks : List ℕ) (q : Renderer) (a : List ℕ) (i o : ℕ) → i ≤ length b → o ≤ length a → Repeating b ks q a a i o i o
+pub repeating_start : (b ks : List ℕ) (q : Renderer) (a : List ℕ) (x : Made) → x.next ≤ length b → x.end ≤ length a → Repeating b ks q a a x.next x.end x
 unfolding r_all
-repeating_start b ks q a i o h l = record { turns = length (records_from b i); enough = omega arith; is = λ d s m. m; high = h; room = l; same = refl }
+repeating_start b ks q a x h l = record { turns = length (records_from b x.next); enough = omega arith; is = λ d s m. m; high = h; room = l; same = refl }
 
-module _ {b ks : List ℕ} {q : Renderer} {a c : List ℕ} {i o n t : ℕ} (h : Repeating b ks q a c i o n t) {y : Bool} (e : y ≡ next_among ks (records_from b n)) where
-  pub repeating_all : y ≡ false → Makes b a c i o (r_all ks q (records_from b i)) (Took n t)
+module _ {b ks : List ℕ} {q : Renderer} {a c : List ℕ} {i o : ℕ} {x : Made} (h : Repeating b ks q a c i o x) {y : Bool} (e : y ≡ next_among ks (records_from b x.next)) where
+  pub repeating_all : y ≡ false → Makes b a c i o (r_all ks q (records_from b i)) (Ok x)
   unfolding r_many
-  repeating_all z = h.is c (Took n t) (go h.turns)
+  repeating_all z = h.is c (Ok x) (go h.turns)
     where
-      go : (g : ℕ) → Makes b c c n t (r_many ks q g (records_from b n)) (Took n t)
-      go zero = makes_none b c n t h.high h.room
-      go (suc g) = among_no ks (q next r_many ks q g) b n e z h.high h.room
+      go : (g : ℕ) → Makes b c c x.next x.end (r_many ks q g (records_from b x.next)) (Ok x)
+      go zero = makes_none b c x h.high h.room
+      go (suc g) = among_no ks (q next r_many ks q g) b x.next e z h.high h.room
 
-  module _ (v : y ≡ true) {d : List ℕ} {r : Made} (m : Makes b c d n t (q (records_from b n)) r) where
-    turn : {w : List ℕ} {s : Made} → Makes b c w n t ((q next r_many ks q (h.turns - 1)) (records_from b n)) s → Makes b c w n t (r_many ks q h.turns (records_from b n)) s
-    turn l = makes_as (among_yes ks (q next r_many ks q (h.turns - 1)) b n e v l) (sym (many_more ks q h.turns (records_from b n) (omega (arith, h.enough, some_next ks (records_from b n) (sym e ∙ v)))))
+  module _ (v : y ≡ true) where
+    turn : {w : List ℕ} {s : Answer} → Makes b c w x.next x.end ((q next r_many ks q (h.turns - 1)) (records_from b x.next)) s → Makes b c w x.next x.end (r_many ks q h.turns (records_from b x.next)) s
+    turn l = makes_as (among_yes ks (q next r_many ks q (h.turns - 1)) b x.next e v l) (sym (many_more ks q h.turns (records_from b x.next) (omega (arith, h.enough, some_next ks (records_from b x.next) (sym e ∙ v)))))
 
-    pub repeating_long : r ≡ Long → Makes b a d i o (r_all ks q (records_from b i)) Long
-    repeating_long z = h.is d Long (turn (then_long q (r_many ks q (h.turns - 1)) (records_from b n) m z))
+    pub repeating_long : {d : List ℕ} {z : TooLong} → Makes b c d x.next x.end (q (records_from b x.next)) (Err z) → Makes b a d i o (r_all ks q (records_from b i)) (Err z)
+    repeating_long {d} {z} m = h.is d (Err z) (turn (next_long q (r_many ks q (h.turns - 1)) m))
 
-    pub repeating_next : {x u : ℕ} → r ≡ Took x u → length (records_from b x) < length (records_from b n) → Repeating b ks q a d i o x u
-    repeating_next {x} {u} z l = record {
+    pub repeating_next : {d : List ℕ} {z : Made} → Makes b c d x.next x.end (q (records_from b x.next)) (Ok z) → length (records_from b z.next) < length (records_from b x.next) → Repeating b ks q a d i o z
+    repeating_next m l = record {
       turns = h.turns - 1;
       enough = omega (arith, h.enough);
-      is = λ w s f. h.is w s (turn (then_took q (r_many ks q (h.turns - 1)) (records_from b n) m z f));
-      high = made_high m z;
-      room = made_room m z;
+      is = λ w s f. h.is w s (turn (next_took q (r_many ks q (h.turns - 1)) m f));
+      high = made_high m;
+      room = made_room m;
       same = makes_same m ∙ h.same;
     }
 
 -- a part that takes at least one record leaves fewer
-pub onward_less : {b : List ℕ} {j n q : ℕ} {r : Made} → Onward b j r → r ≡ Took n q → length (records_from b n) < length (records_from b j)
-onward_less {b} {j} {n} {q} f z = f.is n q z
+pub onward_less : {b : List ℕ} {i : ℕ} {x : Made} → Onward b i (Ok x) → length (records_from b x.next) < length (records_from b i)
+onward_less {x = x} f = f.is x refl

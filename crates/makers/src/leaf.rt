@@ -9,7 +9,7 @@ ghost use Rattle.rules.specs.Render.{◌next◌, gives, from, plain, unvalue, r_
 ghost use Rattle.rules.specs.Book.{records_from};
 ghost use Rattle.makers.specs.Making.{Making, Makes};
 
-use crate::made::{Made, closed, opened};
+use crate::made::{Made, TooLong, within};
 use elements::{Form, put_boolean, put_flags, put_integer, put_part};
 use rules::{Row, Sequence, byte_at, count_of, is_next, of_two, record_end, rest_of, row_of};
 
@@ -21,31 +21,17 @@ pub fn count_at(b: &[u8], p: usize, e: usize, k: usize) -> usize
     of_two(byte_at(b, p, e, k), byte_at(b, p, e, k + 1))
 }
 
-// A number in four bytes, the low one first.
-fn of_four(x: u8, y: u8, z: u8, w: u8) -> u32
-    ensures { result ≡ x + 256 * y + 65536 * z + 16777216 * w }
-{
-    x as u32 + 256 * (y as u32) + 65536 * (z as u32) + 16777216 * (w as u32)
-}
-
-// The number in four bytes of a payload.
+// The number in four bytes of a payload, the low one first.
 fn number_at(b: &[u8], p: usize, e: usize) -> u32
     requires { (p ≤ e) × (e ≤ length b.now) }
     ensures { result ≡ number (slice p e b.now) }
 {
-    of_four(
+    u32::from_le_bytes([
         byte_at(b, p, e, 0),
         byte_at(b, p, e, 1),
         byte_at(b, p, e, 2),
         byte_at(b, p, e, 3),
-    )
-}
-
-// A number in one byte.
-fn of_one(x: u8) -> u32
-    ensures { result ≡ x }
-{
-    x as u32
+    ])
 }
 
 // The contents of an INTEGER from its two's complement in 32 bits.
@@ -67,159 +53,140 @@ fn put_value(b: &[u8], p: usize, e: usize, form: Form, out: &mut [u8], o: usize)
     match form {
         Form::Integer => put_twos(out, o, number_at(b, p, e)),
         Form::Bits => put_flags(out, o, number_at(b, p, e)),
-        Form::Boolean => put_boolean(out, o, of_one(byte_at(b, p, e, 0))),
-        Form::Octets => put_part(out, o, b, p, e),
-        Form::Text => put_part(out, o, b, p, e),
-        Form::Time => put_part(out, o, b, p, e),
-        Form::Null => put_part(out, o, b, p, e),
+        Form::Boolean => put_boolean(out, o, u32::from(byte_at(b, p, e, 0))),
+        Form::Octets | Form::Text | Form::Time | Form::Null => put_part(out, o, b, p, e),
     }
 }
 
-// The bytes of b from p to e as they are; the next record starts at e.
-pub fn make_part(b: &[u8], p: usize, e: usize, out: &mut [u8], o: usize) -> Made
-    requires { (p ≤ e) × Making b.now e out.old o }
-    ensures { Makes b.now out.old out.new e o (gives (slice p e b.now) (records_from b.now e)) result }
+// The bytes of b from p to e as they are.
+pub fn make_part(b: &[u8], made: Made, p: usize, e: usize, out: &mut [u8]) -> Result<Made, TooLong>
+    requires { (p ≤ e) × (e ≤ length b.now) × Making b.now made.next out.old made.end }
+    ensures { Makes b.now out.old out.new made.next made.end (gives (slice p e b.now) (records_from b.now made.next)) result }
 {
-    let q = put_part(out, o, b, p, e);
-    if out.len() < q {
-        return Made::Long;
+    let end = put_part(out, made.end, b, p, e);
+    if out.len() < end {
+        return Err(TooLong);
     }
-    Made::Took(e, q)
+    Ok(Made { end, ..made })
 }
 
 // An element with these bytes.
-pub fn part_element(b: &[u8], p: usize, e: usize, tag: u8, out: &mut [u8], o: usize) -> Made
-    requires { (p ≤ e) × Making b.now e out.old o }
-    ensures { Makes b.now out.old out.new e o (gives (wrap tag (slice p e b.now)) (records_from b.now e)) result }
+pub fn part_element(
+    b: &[u8],
+    made: Made,
+    p: usize,
+    e: usize,
+    tag: u8,
+    out: &mut [u8],
+) -> Result<Made, TooLong>
+    requires { (p ≤ e) × (e ≤ length b.now) × Making b.now made.next out.old made.end }
+    ensures { Makes b.now out.old out.new made.next made.end (gives (wrap tag (slice p e b.now)) (records_from b.now made.next)) result }
 {
-    let made = make_part(b, p, e, out, opened(out.len(), o, 2));
-    closed(out, o, tag, made)
+    within(made, tag, out, |made, out| make_part(b, made, p, e, out))
 }
 
 // The contents that the next record tells, by their form.
-fn make_value(b: &[u8], i: usize, form: Form, out: &mut [u8], o: usize) -> Made
-    requires { Making b.now i out.old o }
-    ensures { Makes b.now out.old out.new i o (from (λ k p rs. gives (unvalue form p) rs) (records_from b.now i)) result }
+fn make_value(b: &[u8], made: Made, form: Form, out: &mut [u8]) -> Result<Made, TooLong>
+    requires { Making b.now made.next out.old made.end }
+    ensures { Makes b.now out.old out.new made.next made.end (from (λ k p rs. gives (unvalue form p) rs) (records_from b.now made.next)) result }
 {
-    if b.len() < i + 4 {
-        return Made::Took(i, o);
+    if b.len() < made.next + 4 {
+        return Ok(made);
     }
-    let e = record_end(b, i);
-    let q = put_value(b, i + 4, e, form, out, o);
-    if out.len() < q {
-        return Made::Long;
+    let next = record_end(b, made.next);
+    let end = put_value(b, made.next + 4, next, form, out, made.end);
+    if out.len() < end {
+        return Err(TooLong);
     }
-    Made::Took(e, q)
+    Ok(Made { next, end })
 }
 
 // The next record's payload as it is.
-pub fn make_plain(b: &[u8], i: usize, out: &mut [u8], o: usize) -> Made
-    requires { Making b.now i out.old o }
-    ensures { Makes b.now out.old out.new i o (plain (records_from b.now i)) result }
+pub fn make_plain(b: &[u8], made: Made, out: &mut [u8]) -> Result<Made, TooLong>
+    requires { Making b.now made.next out.old made.end }
+    ensures { Makes b.now out.old out.new made.next made.end (plain (records_from b.now made.next)) result }
 {
-    make_value(b, i, Form::Octets, out, o)
+    make_value(b, made, Form::Octets, out)
 }
 
 // The same if the next record is of this kind: a rest, a sealed part.
-pub fn make_keep(b: &[u8], i: usize, kind: usize, out: &mut [u8], o: usize) -> Made
-    requires { Making b.now i out.old o }
-    ensures { Makes b.now out.old out.new i o (r_keep kind (records_from b.now i)) result }
+pub fn make_keep(b: &[u8], made: Made, kind: usize, out: &mut [u8]) -> Result<Made, TooLong>
+    requires { Making b.now made.next out.old made.end }
+    ensures { Makes b.now out.old out.new made.next made.end (r_keep kind (records_from b.now made.next)) result }
 {
-    if is_next(b, i, kind) {
-        return make_plain(b, i, out, o);
+    if is_next(b, made.next, kind) {
+        return make_plain(b, made, out);
     }
-    Made::Took(i, o)
-}
-
-// So many bytes, all the same.
-fn put_same(out: &mut [u8], o: usize, x: u8, n: usize)
-    requires { (o + n ≤ length out.old) × (length out.old ≤ 32768) }
-    ensures { Put out.old out.new o (o + n) (replicate n x) }
-{
-    let mut k = 0;
-    while k < n {
-        out[o + k] = x;
-        k += 1;
-    }
+    Ok(made)
 }
 
 // The fill that the next record tells: its byte, and how many.
-fn make_same(b: &[u8], i: usize, out: &mut [u8], o: usize) -> Made
-    requires { (i + 4 ≤ length b.now) × Making b.now i out.old o }
-    ensures { Makes b.now out.old out.new i o (from (λ k p rs. gives (replicate (count (drop 1 p)) (get_or p 0 0)) rs) (records_from b.now i)) result }
+fn make_same(b: &[u8], made: Made, out: &mut [u8]) -> Result<Made, TooLong>
+    requires { (made.next + 4 ≤ length b.now) × Making b.now made.next out.old made.end }
+    ensures { Makes b.now out.old out.new made.next made.end (from (λ k p rs. gives (replicate (count (drop 1 p)) (get_or p 0 0)) rs) (records_from b.now made.next)) result }
 {
-    let e = record_end(b, i);
-    let n = count_at(b, i + 4, e, 1);
-    if out.len() - o < n {
-        return Made::Long;
+    let e = record_end(b, made.next);
+    let n = count_at(b, made.next + 4, e, 1);
+    if out.len() - made.end < n {
+        return Err(TooLong);
     }
-    put_same(out, o, byte_at(b, i + 4, e, 0), n);
-    Made::Took(e, o + n)
+    let end = made.end + n;
+    out[made.end..end].fill(byte_at(b, made.next + 4, e, 0));
+    Ok(Made { next: e, end })
 }
 
 // The fill that the next record tells, if it is of this kind.
-pub fn make_fill(b: &[u8], i: usize, kind: usize, out: &mut [u8], o: usize) -> Made
-    requires { Making b.now i out.old o }
-    ensures { Makes b.now out.old out.new i o (r_fill kind (records_from b.now i)) result }
+pub fn make_fill(b: &[u8], made: Made, kind: usize, out: &mut [u8]) -> Result<Made, TooLong>
+    requires { Making b.now made.next out.old made.end }
+    ensures { Makes b.now out.old out.new made.next made.end (r_fill kind (records_from b.now made.next)) result }
 {
-    if is_next(b, i, kind) {
-        return make_same(b, i, out, o);
+    if is_next(b, made.next, kind) {
+        return make_same(b, made, out);
     }
-    Made::Took(i, o)
+    Ok(made)
 }
 
 // The component of a row, if the next record is of its kind.
-fn make_row(b: &[u8], i: usize, r: Row, out: &mut [u8], o: usize) -> Made
-    requires { Making b.now i out.old o }
-    ensures { Makes b.now out.old out.new i o (r_row r (records_from b.now i)) result }
+fn make_row(b: &[u8], made: Made, r: Row, out: &mut [u8]) -> Result<Made, TooLong>
+    requires { Making b.now made.next out.old made.end }
+    ensures { Makes b.now out.old out.new made.next made.end (r_row r (records_from b.now made.next)) result }
 {
-    if is_next(b, i, r.kind as usize) {
-        let form = r.form;
-        let made = make_value(b, i, form, out, opened(out.len(), o, 2));
-        return closed(out, o, r.tag, made);
+    if is_next(b, made.next, usize::from(r.kind)) {
+        return within(
+            made,
+            r.tag,
+            out,
+            |made, out| make_value(b, made, r.form, out),
+        );
     }
-    Made::Took(i, o)
+    Ok(made)
 }
 
 // The components of a sequence.
-pub fn make_rows(b: &[u8], i: usize, q: Sequence, out: &mut [u8], o: usize) -> Made
-    requires { Making b.now i out.old o }
-    ensures { Makes b.now out.old out.new i o (r_rows (rows_of q) (records_from b.now i)) result }
+pub fn make_rows(b: &[u8], made: Made, q: Sequence, out: &mut [u8]) -> Result<Made, TooLong>
+    requires { Making b.now made.next out.old made.end }
+    ensures { Makes b.now out.old out.new made.next made.end (r_rows (rows_of q) (records_from b.now made.next)) result }
 {
-    let last = count_of(q);
-    let mut k = 0;
-    let mut n = i;
-    let mut p = o;
-    while k < last {
-        match make_row(b, n, row_of(q, k), out, p) {
-            Made::Long => {
-                return Made::Long;
-            }
-            Made::Took(m, t) => {
-                n = m;
-                p = t;
-            }
-        }
-        k += 1;
+    let mut done = made;
+    for k in 0..count_of(q) {
+        done = make_row(b, done, row_of(q, k), out)?;
     }
-    Made::Took(n, p)
+    Ok(done)
 }
 
 // The rest of a sequence.
-pub fn make_rest_in(b: &[u8], i: usize, q: Sequence, out: &mut [u8], o: usize) -> Made
-    requires { Making b.now i out.old o }
-    ensures { Makes b.now out.old out.new i o (r_keep (rest_of q) (records_from b.now i)) result }
+pub fn make_rest_in(b: &[u8], made: Made, q: Sequence, out: &mut [u8]) -> Result<Made, TooLong>
+    requires { Making b.now made.next out.old made.end }
+    ensures { Makes b.now out.old out.new made.next made.end (r_keep (rest_of q) (records_from b.now made.next)) result }
 {
-    make_keep(b, i, rest_of(q) as usize, out, o)
+    make_keep(b, made, usize::from(rest_of(q)), out)
 }
 
 // The components of a sequence and its rest.
-pub fn make_sequence(b: &[u8], i: usize, s: Sequence, out: &mut [u8], o: usize) -> Made
-    requires { Making b.now i out.old o }
-    ensures { Makes b.now out.old out.new i o ((r_rows (rows_of s) next r_keep (rest_of s)) (records_from b.now i)) result }
+pub fn make_sequence(b: &[u8], made: Made, s: Sequence, out: &mut [u8]) -> Result<Made, TooLong>
+    requires { Making b.now made.next out.old made.end }
+    ensures { Makes b.now out.old out.new made.next made.end ((r_rows (rows_of s) next r_keep (rest_of s)) (records_from b.now made.next)) result }
 {
-    match make_rows(b, i, s, out, o) {
-        Made::Long => Made::Long,
-        Made::Took(n, q) => make_rest_in(b, n, s, out, q),
-    }
+    let made = make_rows(b, made, s, out)?;
+    make_rest_in(b, made, s, out)
 }

@@ -7,10 +7,12 @@ mod make_common;
 mod make_condition;
 mod make_object;
 mod make_type;
+mod many;
 
 pub use leaf::{
     make_fill, make_keep, make_part, make_rest_in, make_rows, make_sequence, part_element,
 };
-pub use made::{Made, closed, opened};
+pub use made::{Made, TooLong, opened, within};
 pub use make_object::make_objects;
 pub use make_type::make_due_path;
+pub use many::make_each;

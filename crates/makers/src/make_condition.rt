@@ -6,7 +6,7 @@ ghost use Rattle.rules.specs.Book.{records_from};
 ghost use Rattle.makers.specs.Making.{Making, Makes};
 
 use crate::leaf::{count_at, make_part, part_element};
-use crate::made::{Made, closed, opened};
+use crate::made::{Made, TooLong, closed, opened};
 use rules::{Sort, record_end, word};
 
 // What a condition is, by its record's kind.
@@ -25,89 +25,76 @@ fn sort_of_kind(k: usize) -> Sort
 
 // A condition, with so many levels left.
 #[cycle(condition_tree)]
-pub fn make_condition(b: &[u8], i: usize, levels: usize, out: &mut [u8], o: usize) -> Made
-    requires { Making b.now i out.old o }
-    ensures { Makes b.now out.old out.new i o (r_condition levels (records_from b.now i)) result }
+pub fn make_condition(b: &[u8], made: Made, levels: usize, out: &mut [u8]) -> Result<Made, TooLong>
+    requires { Making b.now made.next out.old made.end }
+    ensures { Makes b.now out.old out.new made.next made.end (r_condition levels (records_from b.now made.next)) result }
 {
     if levels == 0 {
-        return Made::Took(i, o);
+        return Ok(made);
     }
-    if b.len() < i + 4 {
-        return Made::Took(i, o);
+    if b.len() < made.next + 4 {
+        return Ok(made);
     }
-    let e = record_end(b, i);
-    make_condition_as(
-        b,
-        e,
-        levels - 1,
-        sort_of_kind(word(b, i + 2)),
-        i + 4,
-        out,
-        o,
-    )
+    let sort = sort_of_kind(word(b, made.next + 2));
+    let next = record_end(b, made.next);
+    let behind = Made { next, ..made };
+    make_condition_as(b, behind, levels - 1, sort, made.next + 4, out)
 }
 
-// A condition of a sort, whose record's payload is from p to i; what is inside it has so many levels left.
+// A condition of a sort, whose record's payload starts at p; what is inside it has so many levels left.
 #[cycle(condition_tree)]
 fn make_condition_as(
     b: &[u8],
-    i: usize,
+    made: Made,
     levels: usize,
     x: Sort,
     p: usize,
     out: &mut [u8],
-    o: usize,
-) -> Made
-    requires { (p ≤ i) × Making b.now i out.old o }
-    ensures { Makes b.now out.old out.new i o (r_condition_as levels x (slice p i b.now) (records_from b.now i)) result }
+) -> Result<Made, TooLong>
+    requires { (p ≤ made.next) × Making b.now made.next out.old made.end }
+    ensures { Makes b.now out.old out.new made.next made.end (r_condition_as levels x (slice p made.next b.now) (records_from b.now made.next)) result }
 {
+    let inside = opened(made, 2, out.len());
     match x {
-        Sort::Always => part_element(b, i, i, 0x05, out, o),
-        Sort::Identifier => part_element(b, p, i, 0x04, out, o),
+        Sort::Always => part_element(b, made, p, p, 0x05, out),
+        Sort::Identifier => part_element(b, made, p, made.next, 0x04, out),
         Sort::Not => {
-            let made = make_condition(b, i, levels, out, opened(out.len(), o, 2));
-            closed(out, o, 0xa0, made)
+            let inner = make_condition(b, inside, levels, out);
+            closed(out, made.end, 0xa0, inner)
         }
         Sort::And => {
-            let k = count_at(b, p, i, 0);
-            let made = make_times(b, i, levels, k, out, opened(out.len(), o, 2));
-            closed(out, o, 0xa1, made)
+            let inner = make_times(b, inside, levels, count_at(b, p, made.next, 0), out);
+            closed(out, made.end, 0xa1, inner)
         }
         Sort::Or => {
-            let k = count_at(b, p, i, 0);
-            let made = make_times(b, i, levels, k, out, opened(out.len(), o, 2));
-            closed(out, o, 0xa2, made)
+            let inner = make_times(b, inside, levels, count_at(b, p, made.next, 0), out);
+            closed(out, made.end, 0xa2, inner)
         }
-        Sort::Other => make_part(b, p, i, out, o),
+        Sort::Other => make_part(b, made, p, made.next, out),
     }
 }
 
 // So many conditions; where no level or no record is left, no more can come.
 #[cycle(condition_tree)]
-fn make_times(b: &[u8], i: usize, levels: usize, k: usize, out: &mut [u8], o: usize) -> Made
-    requires { Making b.now i out.old o }
-    ensures { Makes b.now out.old out.new i o (r_times k (λ rs. r_condition levels rs) (records_from b.now i)) result }
+fn make_times(
+    b: &[u8],
+    made: Made,
+    levels: usize,
+    k: usize,
+    out: &mut [u8],
+) -> Result<Made, TooLong>
+    requires { Making b.now made.next out.old made.end }
+    ensures { Makes b.now out.old out.new made.next made.end (r_times k (λ rs. r_condition levels rs) (records_from b.now made.next)) result }
 {
     if levels == 0 {
-        return Made::Took(i, o);
+        return Ok(made);
     }
-    let mut left = k;
-    let mut n = i;
-    let mut q = o;
-    while 0 < left {
-        if b.len() < n + 4 {
-            return Made::Took(n, q);
+    let mut done = made;
+    for _turn in 0..k {
+        if b.len() < done.next + 4 {
+            return Ok(done);
         }
-        match make_condition(b, n, levels, out, q) {
-            Made::Long => {
-                return Made::Long;
-            }
-            Made::Took(m, t) => {
-                n = m;
-                q = t;
-            }
-        }
-        left -= 1;
+        done = make_condition(b, done, levels, out)?;
     }
-    Made::Took(n, q)
+    Ok(done)
 }

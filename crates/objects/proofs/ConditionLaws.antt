@@ -1,166 +1,49 @@
--- Conditions: what they are, one by one, and lists of them.
+-- Conditions: by their levels, and lists of them.
 use Prim.Native.Nat.{ℕ, zero, suc, ◌+◌, ◌-◌, ◌*◌, ◌/◌, ◌%◌, ◌^◌, ◌<◌, ◌≤◌}
 use mathlib.Core.Path.{◌≡◌, refl, sym, ap, ◌∙◌}
-use mathlib.Core.Bool.{Bool, true, false, ◌&&◌}
 use mathlib.Core.List.{List, [], ◌∷◌, ◌++◌}
 use native.Mathlib.Numerals.{add-four, add_six}
 use native.Mathlib.Omega.{arith}
-use lib.Dec.{ltb, eqb}
+use lib.Dec.{ltb}
 use lib.ListN.{length, length-append, set}
-use lib.Seq.{slice, sets, set-set, set_comm}
-use borrow.Author.Tests.{lt-ltb, le-ltb, le-leb, lt-leb, eq-eqb, ne_eqb}
+use lib.Seq.{sets, set-set, set_comm}
+use borrow.Author.Tests.{lt-ltb, le-ltb, le-leb, lt-leb}
+use Rattle.std.specs.Prelude.{Ok, Err}
 use Rattle.elements.specs.declared.fault.Fault.{Fault}
-use Rattle.elements.specs.declared.fault.Fault.TheVariants.{BadNull, BadSize, ManyConditions, Missing, TooDeep}
-use Rattle.elements.specs.declared.answer.Head.{Head}
-use Rattle.elements.specs.declared.answer.Head.TheVariants.{At, No}
+use Rattle.elements.specs.declared.fault.Fault.TheVariants.{Missing, TooDeep}
+use Rattle.elements.specs.declared.answer.Refusal.{Refusal}
+use Rattle.elements.specs.Answer.{refused}
+use Rattle.elements.specs.Choice.{choose}
 use Rattle.elements.specs.ChoiceLaws.{by_choose}
-use Rattle.elements.specs.Header.{header}
 use Rattle.elements.specs.Put.{Put, le16}
-use Rattle.elements.specs.PutLaws.{put_as, put_then, put_length}
+use Rattle.elements.specs.PutLaws.{put_as, put_length}
 use Rattle.elements.specs.Record.{record_bytes}
-use Rattle.objects.specs.declared.part.Part.{Part}
-use Rattle.objects.specs.declared.part.Part.TheVariants.{Took, Fails}
-use Rattle.objects.specs.declared.part.Many.{Many}
-use Rattle.objects.specs.declared.part.Many.TheVariants as many
-use Rattle.rules.specs.declared.table.Sort.{Sort}
-use Rattle.rules.specs.declared.table.Sort.TheVariants.{Always, Identifier, Not, And, Or, Other}
+use Rattle.objects.specs.declared.part.Cursor.{Cursor}
 use Rattle.rules.specs.Reading.{Rec, rec, Res, took, fails, also, Reader}
-use Rattle.rules.specs.Parts.{element, ended, sealed, counted, repeat, to_end}
-use Rattle.rules.specs.Tables.{tag_of, sort_by}
-use Rattle.rules.specs.Objects.{counts, listed, identified, condition_as, condition_body, condition}
+use Rattle.rules.specs.Parts.{element, counted, repeat, to_end}
+use Rattle.rules.specs.Objects.{counts, listed, condition_body, condition}
 use Rattle.rules.specs.Book.{encode}
-use Rattle.objects.specs.Did.{Did, did, fell, Forward, Stays, DidMany, did_many, fell_many}
-use Rattle.objects.specs.DidLaws.{encode_append, encode_one, did_one, did_fails, did_ends, element_fails, element_here}
+use Rattle.objects.specs.Did.{Part, came_with, Did, did, fell, Forward, DidMany, did_many, fell_many}
 use Rattle.objects.specs.RepeatLaws.{Marks, Going, going_none, going_fell, going_next, going_many}
+use Rattle.objects.proofs.PartLaws.{did_counts}
 use Rattle.rules.specs.Conditions as conditions
-
--- ---- the sort that has a tag
-module _ (t : ℕ) where
-  pub sort_always : t ≡ 5 → Always ≡ sort_by tag_of t
-  unfolding sort_by
-  sort_always e = rw e refl
-
-  pub sort_identifier : t ≡ 4 → Identifier ≡ sort_by tag_of t
-  unfolding sort_by
-  sort_identifier e = rw e refl
-
-  pub sort_not : t ≡ 0xa0 → Not ≡ sort_by tag_of t
-  unfolding sort_by
-  sort_not e = rw e refl
-
-  pub sort_and : t ≡ 0xa1 → And ≡ sort_by tag_of t
-  unfolding sort_by
-  sort_and e = rw e refl
-
-  pub sort_or : t ≡ 0xa2 → Or ≡ sort_by tag_of t
-  unfolding sort_by
-  sort_or e = rw e refl
-
-  pub sort_other : (t ≡ 5 → ⊥) → (t ≡ 4 → ⊥) → (t ≡ 0xa0 → ⊥) → (t ≡ 0xa1 → ⊥) → (t ≡ 0xa2 → ⊥) → Other ≡ sort_by tag_of t
-  unfolding sort_by
-  sort_other a b c d e = rw (ne_eqb t 5 a, ne_eqb t 4 b, ne_eqb t 0xa0 c, ne_eqb t 0xa1 d, ne_eqb t 0xa2 e) refl
-
-  -- ---- a NULL that is not empty
-  pub null_not : (a e : ℕ) → (t ≡ 5 → ⊥) → false ≡ (eqb t 5 && ltb a e)
-  null_not a e n = rw (ne_eqb t 5 n) refl
-
-  pub null_so : (a e : ℕ) → t ≡ 5 → ltb a e ≡ (eqb t 5 && ltb a e)
-  null_so a e n = rw (eq-eqb t 5 n) refl
-
--- ---- an identifier
-module _ (s : List ℕ) (at x e : ℕ) where
-  pub identified_long : (a : List ℕ) (o : ℕ) → 255 < e - x → Did a a o x e (identified s at x e) (Fails BadSize at)
-  unfolding identified
-  identified_long a o h = rw (lt-leb (e - x) 255 h) (fell refl)
-
-  pub identified_put : {a b : List ℕ} {o p : ℕ} → e - x ≤ 255 → at + 2 ≤ x → x ≤ e → o ≤ 8 * at + 131072 → p ≡ o + 4 + (e - x) → Put a b o p (record_bytes 0x0127 (slice x e s)) → Did a b o x e (identified s at x e) (Took e p)
-  unfolding identified
-  identified_put h i j l n f = rw (le-leb (e - x) 255 h) (did_one 0x0127 (slice x e s) x e f j (omega arith))
-
--- ---- a condition, by its header
-pub did_counts : {a b : List ℕ} {o at end : ℕ} {w : Res} {r : Part} (p : ℕ) → Did a b o at end w r → Did a b o at end (counts p w) r
-did_counts p (did f h i j) = did f h i j
-did_counts p (fell e) = fell e
 
 abbrev Inner : List ℕ → ℕ → ℕ → Reader
 Inner s l = λ j f i. condition s l j f i
 
-by_level : (s : List ℕ) (levels k end at : ℕ) → (levels ≡ 0 → ⊥) → condition s levels k end at ≡ counts at (element s (condition_body s (levels - 1) (k + 1)) end at)
+-- ---- by the levels that are left
+by_level : (s : List ℕ) (l k end at : ℕ) → (l ≡ 0 → ⊥) → condition s l k end at ≡ counts at (element s (condition_body s (l - 1) (k + 1)) end at)
 unfolding conditions.condition condition_body
 by_level s zero k end at n = absurd (n refl)
 by_level s (suc l) k end at n = let u : suc l - 1 ≡ l = omega arith in rw u refl
 
 module _ (s : List ℕ) (levels k end at : ℕ) where
-  pub condition_deep : (a : List ℕ) (o : ℕ) → levels ≡ 0 → at < end → Did a a o at end (condition s levels k end at) (Fails TooDeep at)
+  pub no_level : levels ≡ 0 → condition s levels k end at ≡ choose (ltb at end) (λ _. fails TooDeep at) (λ _. fails Missing end)
   unfolding conditions.condition
-  condition_deep a o z h = rw z (rw (condition, lt-ltb at end h) (fell refl))
+  no_level z = rw z refl
 
-  pub condition_end : (a : List ℕ) (o : ℕ) → levels ≡ 0 → end ≤ at → Did a a o at end (condition s levels k end at) (Fails Missing end)
-  unfolding conditions.condition
-  condition_end a o z h = rw z (rw (condition, le-ltb at end h) (fell refl))
-
-  module _ (n : levels ≡ 0 → ⊥) {h : Head} (g : h ≡ header s at end) where
-    pub condition_bad : (a : List ℕ) (o : ℕ) {f : Fault} {p : ℕ} → h ≡ No f p → Did a a o at end (condition s levels k end at) (Fails f p)
-    condition_bad a o q = rw (by_level s levels k end at n) (did_counts at (element_fails s (condition_body s (levels - 1) (k + 1)) end at g a o q))
-
-    module _ {t x e : ℕ} (q : h ≡ At t x e) where
-      pub condition_by : {a b : List ℕ} {o : ℕ} {r : Part} → Did a b o x e (condition_body s (levels - 1) (k + 1) t at x e) r → Did a b o at end (condition s levels k end at) r
-      condition_by d = rw (by_level s levels k end at n) (did_counts at (element_here s (condition_body s (levels - 1) (k + 1)) end at g q d))
-
-      module _ {z : Bool} (u : z ≡ (eqb t 5 && ltb x e)) where
-        pub condition_null : (a : List ℕ) (o : ℕ) → z ≡ true → Did a a o at end (condition s levels k end at) (Fails BadNull at)
-        unfolding condition_body condition_as conditions.body_by_sort
-        condition_null a o v = condition_by (rw (sym u ∙ v) (fell refl))
-
-        pub condition_many : (a : List ℕ) (o : ℕ) → z ≡ false → 255 ≤ k → Did a a o at end (condition s levels k end at) (Fails ManyConditions at)
-        unfolding condition_body condition_as conditions.body_by_sort
-        condition_many a o v m = condition_by (rw (sym u ∙ v, lt-ltb 255 (k + 1) (omega arith)) (fell refl))
-
-        pub condition_here : {a b : List ℕ} {o : ℕ} {y : Sort} {r : Part} → z ≡ false → k < 255 → y ≡ sort_by tag_of t → Did a b o x e (condition_as s (levels - 1) y t at x e) r → Did a b o at end (condition s levels k end at) r
-        unfolding condition_body condition_as conditions.body_by_sort
-        condition_here v m w d = condition_by (rw (sym u ∙ v, le-ltb 255 (k + 1) (omega arith)) (rw w at d))
-
--- ---- a condition of a sort
-module _ (s : List ℕ) (levels t at x e : ℕ) {y : Sort} where
-  pub as_always : {a b : List ℕ} {o p : ℕ} → y ≡ Always → at + 2 ≤ x → x ≤ e → o ≤ 8 * at + 131072 → p ≡ o + 4 → Put a b o p (record_bytes 0x0126 []) → Did a b o x e (condition_as s levels y t at x e) (Took e p)
-  unfolding condition_as
-  as_always z h i l n f = rw z (did_one 0x0126 [] x e f i (omega arith))
-
-  module _ {a b : List ℕ} {o : ℕ} {r : Part} where
-    pub as_identifier : y ≡ Identifier → Did a b o x e (identified s at x e) r → Did a b o x e (condition_as s levels y t at x e) r
-    unfolding condition_as
-    as_identifier z d = rw z d
-
-    pub as_not : y ≡ Not → Did a b o x e (condition_as s levels Not 0 at x e) r → Did a b o x e (condition_as s levels y t at x e) r
-    unfolding condition_as
-    as_not z d = rw z d
-
-    pub as_and : y ≡ And → Did a b o x e (listed 0x012a e (repeat to_end (Inner s levels) (e - x) 0 e x)) r → Did a b o x e (condition_as s levels y t at x e) r
-    unfolding condition_as
-    as_and z d = rw z d
-
-    pub as_or : y ≡ Or → Did a b o x e (listed 0x012b e (repeat to_end (Inner s levels) (e - x) 0 e x)) r → Did a b o x e (condition_as s levels y t at x e) r
-    unfolding condition_as
-    as_or z d = rw z d
-
-    pub as_other : y ≡ Other → Did a b o x e (sealed s 0x0128 [] t at x e) r → Did a b o x e (condition_as s levels y t at x e) r
-    unfolding condition_as
-    as_other z d = rw z d
-
--- ---- "A0 not"
--- a record in front of what is read from the same place
-pub before : {a b c : List ℕ} {o q x e : ℕ} {w : Res} {r : Part} (k : ℕ) (p : List ℕ) → Put a b o q (record_bytes k p) → Did b c q x e w r → Did a c o x e (also (rec k p ∷ []) [] w) r
-before k p f (did {bs = bs} {n = n} g i j l) = did {n = n} (put_then f g (sym (encode_append (rec k p ∷ []) bs ∙ rw (encode_one k p) refl))) i j l
-before k p f (fell e) = fell (e ∙ put_length f)
-
-module _ (s : List ℕ) (levels at x e : ℕ) {a b c : List ℕ} {o q : ℕ} {w : Part} (f : Put a b o q (record_bytes 0x0129 [])) (d : Did b c q x e (condition s levels 0 e x) w) where
-  pub not_bad : {y : Fault} {p : ℕ} → w ≡ Fails y p → Did a c o x e (condition_as s levels Not 0 at x e) (Fails y p)
-  unfolding condition_as
-  not_bad z = before 0x0129 [] f (did_fails d (λ n. ended s e n) z)
-
-  pub not_ends : {n p : ℕ} {r : Part} → w ≡ Took n p → Stays p n e (ended s e n) r → Did a c o x e (condition_as s levels Not 0 at x e) r
-  unfolding condition_as
-  not_ends z g = before 0x0129 [] f (did_ends d z (λ n. ended s e n) g)
+  pub condition_by : (levels ≡ 0 → ⊥) → {a b : List ℕ} {o : ℕ} {r : Part} → Did a b o at end (element s (condition_body s (levels - 1) (k + 1)) end at) r → Did a b o at end (condition s levels k end at) r
+  condition_by n d = rw (by_level s levels k end at n) (did_counts at d)
 
 -- ---- the conditions of a list
 counts_marks : (p : ℕ) (w : Res) → Marks (counts p w) 1
@@ -183,21 +66,18 @@ pub record Listing (s : List ℕ) (levels : ℕ) (a b : List ℕ) (end at o k n 
 pub listing_none : (s : List ℕ) (levels : ℕ) (a : List ℕ) (end at o : ℕ) → at ≤ end → o ≤ 8 * at + 131072 → Listing s levels a a end at o 0 at o
 listing_none s levels a end at o h l = record { going = going_none to_end (Inner s levels) a end at o 0 h l; few = omega arith }
 
-pub listing_less : {w : Part} {end n r q : ℕ} → Forward n w → w ≡ Took r q → n < end → end - r < end - n
-listing_less {end = end} {n = n} {r = r} {q = q} g z h = omega (arith, g.is r q z)
-
 module _ {s : List ℕ} {levels : ℕ} {a b : List ℕ} {end at o k n p : ℕ} (h : Listing s levels a b end at o k n p) where
-  module _ (l : n < end) {c : List ℕ} {w : Part} (d : Did b c p n end (condition s levels k end n) w) where
-    pub listing_fell : {x : Fault} {q : ℕ} → w ≡ Fails x q → DidMany a c o at end (repeat to_end (Inner s levels) (end - at) 0 end at) (many.Fails x q)
-    listing_fell z = going_fell h.going (lt-ltb n end l) l d z
+  module _ (l : n < end) {c : List ℕ} where
+    pub listing_fell : {x : Refusal} → Did b c p n end (condition s levels k end n) (Err x) → DidMany a c o at end (repeat to_end (Inner s levels) (end - at) 0 end at) (Err x)
+    listing_fell d = going_fell h.going (lt-ltb n end l) l d
 
-    pub listing_next : {r q : ℕ} → w ≡ Took r q → Forward n w → Listing s levels a c end at o (k + 1) r q
-    listing_next {r} {q} z g = record {
-      going = going_next h.going (lt-ltb n end l) l d z g (one_mark s levels k end n) refl;
-      few = omega (arith, h.few, h.going.low, g.is r q z);
+    pub listing_next : {r : Cursor} → Did b c p n end (condition s levels k end n) (Ok r) → Forward n (Ok r) → Listing s levels a c end at o (k + 1) r.dump r.book
+    listing_next {r} d g = record {
+      going = going_next h.going (lt-ltb n end l) l d g (one_mark s levels k end n) refl;
+      few = omega (arith, h.few, h.going.low, g.is r refl);
     }
 
-  pub listing_all : end ≤ n → DidMany a b o at end (repeat to_end (Inner s levels) (end - at) 0 end at) (many.Took n p k)
+  pub listing_all : end ≤ n → DidMany a b o at end (repeat to_end (Inner s levels) (end - at) 0 end at) (came_with n p k)
   listing_all l = going_many h.going (le-ltb n end l) (omega arith)
 
 -- ---- a list has at most as many conditions as bytes
@@ -221,11 +101,11 @@ few_of s levels (suc g) k end at =
     (λ _ _. few_counted (condition s levels k end at) (λ c n. repeat to_end (Inner s levels) g (k + c) end n) g (one_mark s levels k end at) (λ c n. few_of s levels g (k + c) end n))
     (λ _ _. few {ms = []} (omega arith))
 
-pub few_fit : (s : List ℕ) (levels x e : ℕ) {b c : List ℕ} {q n t k : ℕ} {r : Many} → DidMany b c q x e (repeat to_end (Inner s levels) (e - x) 0 e x) r → r ≡ many.Took n t k → e ≤ length s → length s ≤ 32768 → k < 2 ^ 16
-few_fit s levels x e {b} {c} {q} {n} {t} {k} d z h l = go (few_of s levels (e - x) 0 e x) (rw z at d)
+pub few_fit : (s : List ℕ) (levels x e : ℕ) {b c : List ℕ} {q : ℕ} {y : Cursor × ℕ} → DidMany b c q x e (repeat to_end (Inner s levels) (e - x) 0 e x) (Ok y) → e ≤ length s → length s ≤ 32768 → y.1 < 2 ^ 16
+few_fit s levels x e {b} {c} {q} {y} d h l = go (few_of s levels (e - x) 0 e x) d
   where
-    go : {w : Res} → Few (e - x) w → DidMany b c q x e w (many.Took n t k) → k < 2 ^ 16
-    go (none {p = p}) x4 = elim x4 [ ]
+    go : {w : Res} {y : Cursor × ℕ} → Few (e - x) w → DidMany b c q x e w (Ok y) → y.1 < 2 ^ 16
+    go (none {p = p}) d = elim d [ ]
     go (few m) (did_many f u _ _ _) = omega arith
 
 -- ---- the count is put when it is known
@@ -253,22 +133,22 @@ counted_bytes : (kind k : ℕ) (bs : List Rec) (ms : List ℕ) → k ≡ length 
 unfolding encode
 counted_bytes kind k bs ms e = rw e refl
 
-module _ (kind x e : ℕ) {a b c : List ℕ} {o q : ℕ} {w : Res} {r : Many} (f : Put a b o q (record_bytes kind (0 ∷ 0 ∷ []))) (d : DidMany b c q x e w r) where
-  pub listed_bad : {y : Fault} {p : ℕ} → r ≡ many.Fails y p → Did a c o x e (listed kind e w) (Fails y p)
-  listed_bad {y} {p} z = go (rw z at d)
+module _ (kind x e : ℕ) {a b c : List ℕ} {o q : ℕ} {w : Res} (f : Put a b o q (record_bytes kind (0 ∷ 0 ∷ []))) where
+  pub listed_bad : {y : Refusal} → DidMany b c q x e w (Err y) → Did a c o x e (listed kind e w) (Err y)
+  listed_bad d = go d
     where
-      go : {w : Res} → DidMany b c q x e w (many.Fails y p) → Did a c o x e (listed kind e w) (Fails y p)
+      go : {w : Res} {y : Refusal} → DidMany b c q x e w (Err y) → Did a c o x e (listed kind e w) (Err y)
       go (fell_many g) = fell (g ∙ put_length f)
 
-  module _ {n t k : ℕ} (z : r ≡ many.Took n t k) where
-    pub listed_few : k < 2 → Did a c o x e (listed kind e w) (Fails Missing e)
-    listed_few l = go (rw z at d)
+  module _ {y : Cursor × ℕ} (d : DidMany b c q x e w (Ok y)) where
+    pub listed_few : y.1 < 2 → Did a c o x e (listed kind e w) (refused Missing e)
+    listed_few l = go d l
       where
-        go : {w : Res} → DidMany b c q x e w (many.Took n t k) → Did a c o x e (listed kind e w) (Fails Missing e)
-        go (did_many {ms = ms} g u _ _ _) = rw (lt-leb 2 (length ms) (omega arith)) (fell (put_length g ∙ put_length f))
+        go : {w : Res} {y : Cursor × ℕ} → DidMany b c q x e w (Ok y) → y.1 < 2 → Did a c o x e (listed kind e w) (refused Missing e)
+        go (did_many {ms = ms} g u _ _ _) l = rw (lt-leb 2 (length ms) (omega arith)) (fell (put_length g ∙ put_length f))
 
-    pub listed_put : {m : List ℕ} {y : ℕ} → 2 ≤ k → Put c m (o + 4) y (le16 k) → Did a m o x e (listed kind e w) (Took n t)
-    listed_put {m} {y} l h = go (rw z at d)
+    pub listed_put : {m : List ℕ} {z : ℕ} → 2 ≤ y.1 → Put c m (o + 4) z (le16 y.1) → Did a m o x e (listed kind e w) (Ok y.0)
+    listed_put {m} {z} l h = go d l h
       where
-        go : {w : Res} → DidMany b c q x e w (many.Took n t k) → Did a m o x e (listed kind e w) (Took n t)
-        go (did_many {bs = bs} {ms = ms} g u i j v) = rw (le-leb 2 (length ms) (omega arith)) (did {n = n} (put_as (put_patch kind k f g h) (counted_bytes kind k bs ms u)) i j v)
+        go : {w : Res} {y : Cursor × ℕ} → DidMany b c q x e w (Ok y) → 2 ≤ y.1 → Put c m (o + 4) z (le16 y.1) → Did a m o x e (listed kind e w) (Ok y.0)
+        go (did_many {bs = bs} {ms = ms} {n = n} {c = k} g u i j v) l h = rw (le-leb 2 (length ms) (omega arith)) (did {n = n} (put_as (put_patch kind k f g h) (counted_bytes kind k bs ms u)) i j v)

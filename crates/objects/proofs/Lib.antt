@@ -1,10 +1,8 @@
+pub mod Auto
 pub mod DueLaws
-pub mod RecordLaws
+pub mod PartLaws
 pub mod RowLaws
-pub mod KeepLaws
-pub mod ClassLaws
-pub mod ConditionLaws
-pub mod CommonLaws
 pub mod PathLaws
-pub mod TypeLaws
-pub mod ObjectLaws
+pub mod PasswordLaws
+pub mod ConditionLaws
+pub mod RuleLaws

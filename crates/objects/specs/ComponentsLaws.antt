@@ -1,17 +1,16 @@
 -- The loop over a sequence's rows.
-use Rattle.std.specs.Prelude.{ℕ, ◌+◌, ◌*◌, ◌<◌, ◌≤◌, ◌≡◌, refl, List, [], ◌++◌, length, get_or}
+use Rattle.std.specs.Prelude.{ℕ, ◌+◌, ◌*◌, ◌<◌, ◌≤◌, ◌≡◌, refl, List, [], ◌++◌, length, get_or, Ok, Err}
 use Rattle.std.proofs.Math.Path.{sym}
 use Rattle.std.proofs.Common.{◌∙◌, append-nil, append_assoc, arith}
 use Rattle.std.proofs.Math.Numerals.{add-one}
 use Rattle.std.proofs.Math.Seq.{slice, slice_empty, slice-cons}
-use Rattle.elements.specs.declared.fault.Fault.{Fault}
-use Rattle.objects.specs.declared.part.Part.{Part}
-use Rattle.objects.specs.declared.part.Part.TheVariants.{Took, Fails}
+use Rattle.elements.specs.declared.answer.Refusal.{Refusal}
+use Rattle.objects.specs.declared.part.Cursor.{Cursor}
 use Rattle.rules.specs.declared.table.Row.{Row}
 use Rattle.rules.specs.Reading.{Rec, Res, took, fails, also, and_then}
 use Rattle.rules.specs.Parts.{component, row_body, components}
 use Rattle.rules.specs.Tables.{no_row}
-use Rattle.objects.specs.Did.{Did}
+use Rattle.objects.specs.Did.{Part, came, Did}
 use Rattle.objects.specs.DidLaws.{did_then, did_fails, did_none, did_low, did_high, did_small, did_same, did_as}
 
 abbrev one : List ℕ → Row → ℕ → ℕ → Res
@@ -27,7 +26,7 @@ pub record Along (s : List ℕ) (rs : List Row) (a b : List ℕ) (i last end at 
   pub small : p ≤ 8 * n + 131072
   pub same : length b ≡ length a
   pub before : Res
-  pub done : Did a b o at end before (Took n p)
+  pub done : Did a b o at end before (came n p)
   pub rest : and_then before (λ m. components s (slice k last rs) end m) ≡ components s (slice i last rs) end at
 
 pub also_none : (w : Res) → also [] [] w ≡ w
@@ -60,35 +59,35 @@ then_then (took bs ms n) f g = go (f n)
     go (fails x p) = refl
 then_then (fails x p) f g = refl
 
-module _ {s : List ℕ} {rs : List Row} {a b : List ℕ} {i last end at o k n p : ℕ} (h : Along s rs a b i last end at o k n p) (l : k < last)
-    {c : List ℕ} {r : Row} {w : Part} (e : r ≡ get_or rs k no_row) (d : Did b c p n end (one s r end n) w) where
+module _ {s : List ℕ} {rs : List Row} {a b : List ℕ} {i last end at o k n p : ℕ} (h : Along s rs a b i last end at o k n p) (l : k < last) where
   head_is : and_then (and_then h.before (λ m. one s (get_or rs k no_row) end m)) (λ m. components s (slice (k + 1) last rs) end m) ≡ components s (slice i last rs) end at
   unfolding components
   head_is =
       sym (then_then h.before (λ m. one s (get_or rs k no_row) end m) (λ m. components s (slice (k + 1) last rs) end m))
       ∙ (rw add-one (rw (slice-cons k last rs no_row l h.fits) at h.rest))
 
-  here : Did a c o at end (and_then h.before (λ m. one s (get_or rs k no_row) end m)) w
-  here = did_then h.done refl (λ m. one s (get_or rs k no_row) end m) (rw e at d)
+  module _ {c : List ℕ} {r : Row} (e : r ≡ get_or rs k no_row) where
+    here : {w : Part} → Did b c p n end (one s r end n) w → Did a c o at end (and_then h.before (λ m. one s (get_or rs k no_row) end m)) w
+    here d = did_then h.done (λ m. one s (get_or rs k no_row) end m) (rw e at d)
 
-  pub along_fails : {f : Fault} {x : ℕ} → w ≡ Fails f x → Did a c o at end (components s (slice i last rs) end at) (Fails f x)
-  along_fails z = did_as (did_fails here (λ m. components s (slice (k + 1) last rs) end m) z) head_is
+    pub along_fails : {x : Refusal} → Did b c p n end (one s r end n) (Err x) → Did a c o at end (components s (slice i last rs) end at) (Err x)
+    along_fails d = did_as (did_fails (here d) (λ m. components s (slice (k + 1) last rs) end m)) head_is
 
-  pub along_next : {m t : ℕ} → w ≡ Took m t → Along s rs a c i last end at o (k + 1) m t
-  along_next {m} {t} z = record {
-    from = omega (arith, h.from);
-    upto = omega arith;
-    fits = h.fits;
-    low = did_low here z;
-    high = did_high here z;
-    small = did_small here z;
-    same = did_same here;
-    before = and_then h.before (λ y. one s (get_or rs k no_row) end y);
-    done = rw z at here;
-    rest = head_is;
-  }
+    pub along_next : {m : Cursor} → Did b c p n end (one s r end n) (Ok m) → Along s rs a c i last end at o (k + 1) m.dump m.book
+    along_next {m} d = record {
+      from = omega (arith, h.from);
+      upto = omega arith;
+      fits = h.fits;
+      low = did_low (here d);
+      high = did_high (here d);
+      small = did_small (here d);
+      same = did_same (here d);
+      before = and_then h.before (λ y. one s (get_or rs k no_row) end y);
+      done = here d;
+      rest = head_is;
+    }
 
-pub along_all : {s : List ℕ} {rs : List Row} {a b : List ℕ} {i last end at o k n p : ℕ} → Along s rs a b i last end at o k n p → last ≤ k → Did a b o at end (components s (slice i last rs) end at) (Took n p)
+pub along_all : {s : List ℕ} {rs : List Row} {a b : List ℕ} {i last end at o k n p : ℕ} → Along s rs a b i last end at o k n p → last ≤ k → Did a b o at end (components s (slice i last rs) end at) (came n p)
 unfolding components
 along_all {s} {rs} {a} {b} {i} {last} {end} {at} {o} {k} {n} {p} h l = did_as h.done (go h.before ∙ (rw (empty, components) at h.rest))
   where

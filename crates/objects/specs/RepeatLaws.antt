@@ -1,19 +1,18 @@
 -- A loop of the code follows `repeat`: items from `at` to `end`, j counted before the first of them.
 use Prim.Native.Nat.{ℕ, zero, suc, ◌+◌, ◌-◌, ◌*◌, ◌<◌, ◌≤◌}
-use Rattle.std.specs.Prelude.{◌≡◌, Bool, true, false, List, [], ◌++◌, length}
+use Rattle.std.specs.Prelude.{◌≡◌, Bool, true, false, List, [], ◌++◌, length, Ok, Err}
 use Rattle.std.proofs.Math.Path.{refl}
 use Rattle.std.proofs.Common.{sym, ap, ◌∙◌, append-nil, arith, length-append}
 use Rattle.elements.specs.declared.fault.Fault.{Fault}
+use Rattle.elements.specs.declared.answer.Refusal.{Refusal}
 use Rattle.elements.specs.Put.{Put}
 use Rattle.elements.specs.PutLaws.{put_none, put_then, put_length}
-use Rattle.objects.specs.declared.part.Part.{Part}
-use Rattle.objects.specs.declared.part.Part.TheVariants.{Took, Fails}
-use Rattle.objects.specs.declared.part.Many.TheVariants as many
+use Rattle.objects.specs.declared.part.Cursor.{Cursor}
 use Rattle.rules.specs.Reading.{Rec, Res, took, fails, also, Reader}
 use Rattle.rules.specs.Parts.{counted, repeat}
 use Rattle.rules.specs.Book.{encode}
-use Rattle.objects.specs.Did.{Did, did, fell, Forward, DidMany, did_many, fell_many}
-use Rattle.objects.specs.DidLaws.{encode_append}
+use Rattle.objects.specs.Did.{came, came_with, Did, did, fell, Forward, DidMany, did_many, fell_many}
+use Rattle.objects.specs.DidLaws.{encode_append, did_same}
 use Rattle.objects.specs.ComponentsLaws.{also_none, also_also}
 
 -- a part has so many marks
@@ -93,34 +92,34 @@ module _ {more : ℕ → ℕ → Bool} {f : ℕ → Reader} {a b : List ℕ} {en
       stops t = stopped more f k end n m t
 
 module _ {more : ℕ → ℕ → Bool} {f : ℕ → Reader} {a b : List ℕ} {end at o j k n p : ℕ} (h : Going more f a b end at o j k n p) where
-  module _ (m : more end n ≡ true) (l : n < end) {c : List ℕ} {w : Part} (d : Did b c p n end (f k end n) w) where
-    fails_so : {x : Fault} {q : ℕ} → w ≡ Fails x q → repeat more f (end - at) j end at ≡ fails x q
-    fails_so {x} {q} z = going_break h m l (failed (rw z at d))
-      where
-        failed : {v : Res} → Did b c p n end v (Fails x q) → v ≡ fails x q
-        failed (fell e) = refl
+  module _ (m : more end n ≡ true) (l : n < end) {c : List ℕ} where
+    module _ {e : Refusal} (d : Did b c p n end (f k end n) (Err e)) where
+      fails_so : repeat more f (end - at) j end at ≡ fails e.0 e.1
+      fails_so = going_break h m l (failed d)
+        where
+          failed : {v : Res} {e : Refusal} → Did b c p n end v (Err e) → v ≡ fails e.0 e.1
+          failed (fell e) = refl
 
-    lengths : {v : Res} {x : Part} → Did b c p n end v x → length c ≡ length a
-    lengths (did g _ _ _) = put_length g ∙ h.same
-    lengths (fell e) = e ∙ h.same
+      lengths : length c ≡ length a
+      lengths = did_same d ∙ h.same
 
-    pub going_fails : {x : Fault} {q : ℕ} → w ≡ Fails x q → Did a c o at end (repeat more f (end - at) j end at) (Fails x q)
-    going_fails z = rw (fails_so z) (fell (lengths d))
+      pub going_fails : Did a c o at end (repeat more f (end - at) j end at) (Err e)
+      going_fails = rw fails_so (fell lengths)
 
-    pub going_fell : {x : Fault} {q : ℕ} → w ≡ Fails x q → DidMany a c o at end (repeat more f (end - at) j end at) (many.Fails x q)
-    going_fell z = rw (fails_so z) (fell_many (lengths d))
+      pub going_fell : DidMany a c o at end (repeat more f (end - at) j end at) (Err e)
+      going_fell = rw fails_so (fell_many lengths)
 
     -- the next item, which has x marks
-    pub going_next : {x i r q : ℕ} → w ≡ Took r q → Forward n w → Marks (f k end n) x → i ≡ k + x → Going more f a c end at o j i r q
-    going_next {x} {i} {r} {q} z g v e = go (f k end n) refl (rw z at d)
+    pub going_next : {x i : ℕ} {r : Cursor} → Did b c p n end (f k end n) (Ok r) → Forward n (Ok r) → Marks (f k end n) x → i ≡ k + x → Going more f a c end at o j i r.dump r.book
+    going_next {x} {i} {r} d g v e = go (f k end n) refl d
       where
-        go : (y : Res) → f k end n ≡ y → Did b c p n end y (Took r q) → Going more f a c end at o j i r q
-        go (fails _ _) u x5 = elim x5 [ ]
-        go (took cs ns _) u (did g' lo hi sm) = let len : length ns ≡ x = v.is cs ns r u in going_step h m l cs ns u g' (g.is r q z) hi sm (omega arith)
+        go : (y : Res) → f k end n ≡ y → Did b c p n end y (Ok r) → Going more f a c end at o j i r.dump r.book
+        go (fails _ _) u d = elim d [ ]
+        go (took cs ns _) u (did g' lo hi sm) = let len : length ns ≡ x = v.is cs ns r.dump u in going_step h m l cs ns u g' (g.is r refl) hi sm (omega arith)
 
   module _ (m : more end n ≡ false) where
-    pub going_all : Did a b o at end (repeat more f (end - at) j end at) (Took n p)
+    pub going_all : Did a b o at end (repeat more f (end - at) j end at) (came n p)
     going_all = rw (going_stop h m) (did h.put h.low h.high h.small)
 
-    pub going_many : {c : ℕ} → k ≡ j + c → DidMany a b o at end (repeat more f (end - at) j end at) (many.Took n p c)
+    pub going_many : {c : ℕ} → k ≡ j + c → DidMany a b o at end (repeat more f (end - at) j end at) (came_with n p c)
     going_many {c} e = rw (going_stop h m) (did_many {ms = h.ms} {c = c} h.put (omega (arith, h.count)) h.low h.high h.small)

@@ -1,11 +1,9 @@
 -- What a row's component comes to.
-use Rattle.std.specs.Prelude.{ℕ, ◌<◌, ◌≡◌, refl, List, [], ◌∷◌, ltb, eqb}
+use Rattle.std.specs.Prelude.{ℕ, ◌<◌, ◌≡◌, refl, List, [], ◌∷◌, ltb, eqb, Err, Ok}
 use Rattle.std.proofs.Common.{append-nil, arith}
 use Rattle.std.proofs.Math.Seq.{slice}
 use Rattle.elements.specs.declared.fault.Fault.{Fault}
 use Rattle.elements.specs.declared.fault.Fault.TheVariants.{Missing, NotDue}
-use Rattle.elements.specs.declared.answer.Head.{Head}
-use Rattle.elements.specs.declared.answer.Head.TheVariants.{At, No}
 use Rattle.elements.specs.ChoiceLaws.{by_choose}
 use Rattle.elements.specs.Header.{header}
 use Rattle.elements.specs.HeaderLaws.{header_in}
@@ -15,6 +13,7 @@ use Rattle.rules.specs.declared.table.Need.TheVariants.{Required, Optional, Defa
 use Rattle.rules.specs.declared.table.Row.{Row}
 use Rattle.rules.specs.Reading.{rec, Res, took, fails, and_then}
 use Rattle.rules.specs.Parts.{Val, good, wrong, component, row_body, components, absent, due, judged, valued}
+use Rattle.elements.specs.Answer.{Head}
 
 -- what a row's component answers: a refusal, nothing and the same place, or its record and a further place
 pub data Seen (kind at : ℕ) : Res → Type 0 where
@@ -33,9 +32,9 @@ seen_value r at e h (good p) = stood p h
 
 seen_due : (s : List ℕ) (r : Row) (at end : ℕ) (h : Head) → header s at end ≡ h → Seen r.kind at (due r.tag r.need (row_body s r) at h)
 unfolding row_body
-seen_due s r at end (No f p) k = bad
-seen_due s r at end (At t a e) k = by_choose (Seen r.kind at) (eqb t r.tag)
-    (λ _ _. let u = header_in s at end k in seen_value r at e (omega (arith, u.0, u.1)) (judged r (slice a e s) (value r.form (slice a e s))))
+seen_due s r at end (Err r1) k = bad
+seen_due s r at end (Ok x) k = by_choose (Seen r.kind at) (eqb x.0 r.tag)
+    (λ _ _. let u = header_in s at end k in seen_value r at x.2 (omega (arith, u.0, u.1)) (judged r (slice x.1 x.2 s) (value r.form (slice x.1 x.2 s))))
     (λ _ _. seen_absent r.kind at r.need NotDue at)
 
 pub seen : (s : List ℕ) (r : Row) (end at : ℕ) → Seen r.kind at (component s r.tag r.need (row_body s r) end at)

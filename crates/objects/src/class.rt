@@ -8,88 +8,108 @@ ghost use Rattle.rules.specs.Objects.{class_body, subclass};
 ghost use Rattle.objects.specs.Did.{Did, Inside, InElement, InContainer};
 
 use crate::keep::{ended, rest_in, sealed};
-use crate::part::{Due, Part, stands};
+use crate::part::{Cursor, due};
 use crate::row::components;
-use elements::{Head, Run, header, put_record};
+use elements::{Header, Refusal, header, put_record};
 use rules::{Class, Need, Sequence};
 
 // Data containers: sealed contents, present even when empty.
-fn container(s: &[u8], at: usize, a: usize, e: usize, out: &mut [u8], o: usize) -> Part
-    requires { InElement s.now at a e o }
-    ensures { Did out.old out.new o a e (class_body s.now Containers at a e) result }
+fn container(s: &[u8], x: Header, at: Cursor, out: &mut [u8]) -> Result<Cursor, Refusal>
+    requires { InElement s.now at.dump x.1 x.2 at.book }
+    ensures { Did out.old out.new at.book x.1 x.2 (class_body s.now Containers at.dump x.1 x.2) result }
 {
-    match elements::sealed(s, a, e, 16, &s[..0]) {
-        Run::Refused(f, p) => Part::Fails(f, p),
-        Run::Ends(_) => Part::Took(e, put_record(out, o, 0x0160, s, a, e)),
-    }
+    elements::sealed(s, x.1, x.2, 16, &[])?;
+    let book = put_record(out, at.book, 0x0160, s, x.1, x.2);
+    Ok(Cursor { dump: x.2, book })
 }
 
 // The components of a sequence, and its rest.
-pub fn sequence(s: &[u8], q: Sequence, end: usize, at: usize, out: &mut [u8], o: usize) -> Part
-    requires { InContainer s.now end at o }
-    ensures { Did out.old out.new o at end ((components s.now (rows_of q) then rest s.now (rest_of q) (kept_of q)) end at) result }
+pub fn sequence(
+    s: &[u8],
+    q: Sequence,
+    end: usize,
+    at: Cursor,
+    out: &mut [u8],
+) -> Result<Cursor, Refusal>
+    requires { InContainer s.now end at.dump at.book }
+    ensures { Did out.old out.new at.book at.dump end ((components s.now (rows_of q) then rest s.now (rest_of q) (kept_of q)) end at.dump) result }
 {
-    match components(s, q, end, at, out, o) {
-        Part::Fails(f, p) => Part::Fails(f, p),
-        Part::Took(n, t) => rest_in(s, q, end, n, out, t),
-    }
+    let at = components(s, q, end, at, out)?;
+    rest_in(s, q, end, at, out)
 }
 
-// What an object of a class has: the element at `at`, its contents from a to e.
-fn class_body(s: &[u8], c: Class, at: usize, a: usize, e: usize, out: &mut [u8], o: usize) -> Part
-    requires { InElement s.now at a e o }
-    ensures { Did out.old out.new o a e (class_body s.now c at a e) result }
+// What an object of a class has.
+fn class_body(s: &[u8], c: Class, x: Header, at: Cursor, out: &mut [u8]) -> Result<Cursor, Refusal>
+    requires { InElement s.now at.dump x.1 x.2 at.book }
+    ensures { Did out.old out.new at.book x.1 x.2 (class_body s.now c at.dump x.1 x.2) result }
 {
+    let inside = Cursor { dump: x.1, ..at };
     match c {
-        Class::Keys => sequence(s, Sequence::Key, e, a, out, o),
-        Class::Certificates => sequence(s, Sequence::CertificateAttributes, e, a, out, o),
-        Class::Authentications => sequence(s, Sequence::Authentication, e, a, out, o),
-        Class::Containers => container(s, at, a, e, out, o),
+        Class::Keys => sequence(s, Sequence::Key, x.2, inside, out),
+        Class::Certificates => sequence(s, Sequence::CertificateAttributes, x.2, inside, out),
+        Class::Authentications => sequence(s, Sequence::Authentication, x.2, inside, out),
+        Class::Containers => container(s, x, at, out),
     }
 }
 
 // The class where it is due.
-pub fn due_class(s: &[u8], c: Class, end: usize, at: usize, out: &mut [u8], o: usize) -> Part
-    requires { InContainer s.now end at o }
-    ensures { Did out.old out.new o at end (component s.now 0x30 Required (class_body s.now c) end at) result }
+pub fn due_class(
+    s: &[u8],
+    c: Class,
+    end: usize,
+    at: Cursor,
+    out: &mut [u8],
+) -> Result<Cursor, Refusal>
+    requires { InContainer s.now end at.dump at.book }
+    ensures { Did out.old out.new at.book at.dump end (component s.now 0x30 Required (class_body s.now c) end at.dump) result }
 {
-    match stands(s, 0x30, Need::Required, end, at) {
-        Due::Not(f, p) => Part::Fails(f, p),
-        Due::Absent => Part::Took(at, o),
-        Due::Here(a, e) => class_body(s, c, at, a, e, out, o),
-    }
+    due(
+        s,
+        0x30,
+        Need::Required,
+        end,
+        at,
+        out,
+        |x, _, out| class_body(s, c, x, at, out),
+    )
 }
 
 // An element that must be there, sealed whatever its tag.
-pub fn any_sealed(s: &[u8], kind: u16, end: usize, at: usize, out: &mut [u8], o: usize) -> Part
-    requires { InContainer s.now end at o }
-    ensures { Did out.old out.new o at end (element s.now (sealed s.now kind []) end at) result }
+pub fn any_sealed(
+    s: &[u8],
+    kind: u16,
+    end: usize,
+    at: Cursor,
+    out: &mut [u8],
+) -> Result<Cursor, Refusal>
+    requires { InContainer s.now end at.dump at.book }
+    ensures { Did out.old out.new at.book at.dump end (element s.now (sealed s.now kind []) end at.dump) result }
 {
-    match header(s, at, end) {
-        Head::No(f, p) => Part::Fails(f, p),
-        Head::At(t, a, e) => sealed(s, kind, t, at, a, e, out, o),
-    }
+    let x = header(s, at.dump, end)?;
+    sealed(s, kind, x, at, out)
 }
 
-// "Subclass: one sealed element inside the A0": its contents from a to e.
-fn subclass(s: &[u8], a: usize, e: usize, out: &mut [u8], o: usize) -> Part
-    requires { InContainer s.now e a o }
-    ensures { Inside out.old out.new o a e (subclass s.now) result }
+// "Subclass: one sealed element inside the A0": its contents.
+fn subclass(s: &[u8], end: usize, at: Cursor, out: &mut [u8]) -> Result<Cursor, Refusal>
+    requires { InContainer s.now end at.dump at.book }
+    ensures { Inside out.old out.new at.book at.dump end (subclass s.now) result }
 {
-    match any_sealed(s, 0x0170, e, a, out, o) {
-        Part::Fails(f, p) => Part::Fails(f, p),
-        Part::Took(n, q) => ended(s, e, n, q),
-    }
+    let at = any_sealed(s, 0x0170, end, at, out)?;
+    ended(s, end, at)
 }
 
 // The subclass where it may stand.
-pub fn due_subclass(s: &[u8], end: usize, at: usize, out: &mut [u8], o: usize) -> Part
-    requires { InContainer s.now end at o }
-    ensures { Did out.old out.new o at end (component s.now 0xa0 Optional (subclass s.now) end at) result }
+pub fn due_subclass(s: &[u8], end: usize, at: Cursor, out: &mut [u8]) -> Result<Cursor, Refusal>
+    requires { InContainer s.now end at.dump at.book }
+    ensures { Did out.old out.new at.book at.dump end (component s.now 0xa0 Optional (subclass s.now) end at.dump) result }
 {
-    match stands(s, 0xa0, Need::Optional, end, at) {
-        Due::Not(f, p) => Part::Fails(f, p),
-        Due::Absent => Part::Took(at, o),
-        Due::Here(a, e) => subclass(s, a, e, out, o),
-    }
+    due(
+        s,
+        0xa0,
+        Need::Optional,
+        end,
+        at,
+        out,
+        |x, at, out| subclass(s, x.2, at, out),
+    )
 }

@@ -6,102 +6,96 @@ ghost use Rattle.objects.specs.Did.{Did, Forward, Inside, InContainer};
 
 use crate::condition::condition;
 use crate::keep::rest_in;
-use crate::part::{Due, Part, stands};
+use crate::part::{Cursor, due};
 use crate::row::components;
+use elements::Refusal;
 use rules::{Need, Sequence};
 
-// "A rule is 30 { accessMode, condition, rest }": its contents from a to e.
-fn rule(s: &[u8], a: usize, e: usize, out: &mut [u8], o: usize) -> Part
-    requires { InContainer s.now e a o }
-    ensures { Inside out.old out.new o a e (rule s.now) result }
+// "A rule is 30 { accessMode, condition, rest }": its contents.
+fn rule(s: &[u8], end: usize, at: Cursor, out: &mut [u8]) -> Result<Cursor, Refusal>
+    requires { InContainer s.now end at.dump at.book }
+    ensures { Inside out.old out.new at.book at.dump end (rule s.now) result }
 {
-    match components(s, Sequence::Rule, e, a, out, o) {
-        Part::Fails(f, p) => Part::Fails(f, p),
-        Part::Took(n, q) => match condition(s, 8, 0, e, n, out, q) {
-            Part::Fails(f, p) => Part::Fails(f, p),
-            Part::Took(m, t) => rest_in(s, Sequence::Rule, e, m, out, t),
-        },
-    }
+    let at = components(s, Sequence::Rule, end, at, out)?;
+    let at = condition(s, 8, 0, end, at, out)?;
+    rest_in(s, Sequence::Rule, end, at, out)
 }
 
 // A rule where it is due.
-fn due_rule(s: &[u8], end: usize, at: usize, out: &mut [u8], o: usize) -> Part
-    requires { InContainer s.now end at o }
-    ensures { Did out.old out.new o at end (component s.now 0x30 Required (rule s.now) end at) result × Forward at result }
+fn due_rule(s: &[u8], end: usize, at: Cursor, out: &mut [u8]) -> Result<Cursor, Refusal>
+    requires { InContainer s.now end at.dump at.book }
+    ensures { Did out.old out.new at.book at.dump end (component s.now 0x30 Required (rule s.now) end at.dump) result × Forward at.dump result }
 {
-    match stands(s, 0x30, Need::Required, end, at) {
-        Due::Not(f, p) => Part::Fails(f, p),
-        Due::Absent => Part::Took(at, o),
-        Due::Here(a, e) => rule(s, a, e, out, o),
-    }
+    due(
+        s,
+        0x30,
+        Need::Required,
+        end,
+        at,
+        out,
+        |x, at, out| rule(s, x.2, at, out),
+    )
 }
 
 // Rules up to the end.
-fn more_rules(s: &[u8], end: usize, at: usize, out: &mut [u8], o: usize) -> Part
-    requires { InContainer s.now end at o }
-    ensures { Did out.old out.new o at end (repeat to_end (λ _. component s.now 0x30 Required (rule s.now)) (end - at) 0 end at) result }
+fn more_rules(s: &[u8], end: usize, at: Cursor, out: &mut [u8]) -> Result<Cursor, Refusal>
+    requires { InContainer s.now end at.dump at.book }
+    ensures { Did out.old out.new at.book at.dump end (repeat to_end (λ _. component s.now 0x30 Required (rule s.now)) (end - at.dump) 0 end at.dump) result }
 {
     let mut n = at;
-    let mut p = o;
-    while n < end {
-        match due_rule(s, end, n, out, p) {
-            Part::Fails(f, x) => {
-                return Part::Fails(f, x);
-            }
-            Part::Took(m, t) => {
-                n = m;
-                p = t;
-            }
-        }
+    while n.dump < end {
+        n = due_rule(s, end, n, out)?;
     }
-    Part::Took(n, p)
+    Ok(n)
 }
 
-// "rules 30?, at least one": their contents from a to e.
-fn rules(s: &[u8], a: usize, e: usize, out: &mut [u8], o: usize) -> Part
-    requires { InContainer s.now e a o }
-    ensures { Inside out.old out.new o a e (rules s.now) result }
+// "rules 30?, at least one": their contents.
+fn rules(s: &[u8], end: usize, at: Cursor, out: &mut [u8]) -> Result<Cursor, Refusal>
+    requires { InContainer s.now end at.dump at.book }
+    ensures { Inside out.old out.new at.book at.dump end (rules s.now) result }
 {
-    match due_rule(s, e, a, out, o) {
-        Part::Fails(f, p) => Part::Fails(f, p),
-        Part::Took(n, q) => more_rules(s, e, n, out, q),
-    }
+    let at = due_rule(s, end, at, out)?;
+    more_rules(s, end, at, out)
 }
 
 // Rules where they may stand.
-fn due_rules(s: &[u8], end: usize, at: usize, out: &mut [u8], o: usize) -> Part
-    requires { InContainer s.now end at o }
-    ensures { Did out.old out.new o at end (component s.now 0x30 Optional (rules s.now) end at) result }
+fn due_rules(s: &[u8], end: usize, at: Cursor, out: &mut [u8]) -> Result<Cursor, Refusal>
+    requires { InContainer s.now end at.dump at.book }
+    ensures { Did out.old out.new at.book at.dump end (component s.now 0x30 Optional (rules s.now) end at.dump) result }
 {
-    match stands(s, 0x30, Need::Optional, end, at) {
-        Due::Not(f, p) => Part::Fails(f, p),
-        Due::Absent => Part::Took(at, o),
-        Due::Here(a, e) => rules(s, a, e, out, o),
-    }
+    due(
+        s,
+        0x30,
+        Need::Optional,
+        end,
+        at,
+        out,
+        |x, at, out| rules(s, x.2, at, out),
+    )
 }
 
-// Common attributes: their contents from a to e.
-fn common(s: &[u8], a: usize, e: usize, out: &mut [u8], o: usize) -> Part
-    requires { InContainer s.now e a o }
-    ensures { Inside out.old out.new o a e (common s.now) result }
+// Common attributes: their contents.
+fn common(s: &[u8], end: usize, at: Cursor, out: &mut [u8]) -> Result<Cursor, Refusal>
+    requires { InContainer s.now end at.dump at.book }
+    ensures { Inside out.old out.new at.book at.dump end (common s.now) result }
 {
-    match components(s, Sequence::Common, e, a, out, o) {
-        Part::Fails(f, p) => Part::Fails(f, p),
-        Part::Took(n, q) => match due_rules(s, e, n, out, q) {
-            Part::Fails(f, p) => Part::Fails(f, p),
-            Part::Took(m, t) => rest_in(s, Sequence::Common, e, m, out, t),
-        },
-    }
+    let at = components(s, Sequence::Common, end, at, out)?;
+    let at = due_rules(s, end, at, out)?;
+    rest_in(s, Sequence::Common, end, at, out)
 }
 
 // Common attributes where they are due.
-pub fn due_common(s: &[u8], end: usize, at: usize, out: &mut [u8], o: usize) -> Part
-    requires { InContainer s.now end at o }
-    ensures { Did out.old out.new o at end (component s.now 0x30 Required (common s.now) end at) result }
+pub fn due_common(s: &[u8], end: usize, at: Cursor, out: &mut [u8]) -> Result<Cursor, Refusal>
+    requires { InContainer s.now end at.dump at.book }
+    ensures { Did out.old out.new at.book at.dump end (component s.now 0x30 Required (common s.now) end at.dump) result }
 {
-    match stands(s, 0x30, Need::Required, end, at) {
-        Due::Not(f, p) => Part::Fails(f, p),
-        Due::Absent => Part::Took(at, o),
-        Due::Here(a, e) => common(s, a, e, out, o),
-    }
+    due(
+        s,
+        0x30,
+        Need::Required,
+        end,
+        at,
+        out,
+        |x, at, out| common(s, x.2, at, out),
+    )
 }

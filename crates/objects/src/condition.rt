@@ -6,9 +6,9 @@ ghost use Rattle.rules.specs.Objects.{identified, condition_as, condition, liste
 ghost use Rattle.objects.specs.Did.{Did, DidMany, Forward, InElement, InContainer};
 
 use crate::keep::{ended, sealed};
-use crate::part::{Many, Part};
+use crate::part::Cursor;
 use crate::records::{put_bare, put_two};
-use elements::{Fault, Head, header, put_le16, put_record};
+use elements::{Fault, Header, Refusal, header, put_le16, put_record};
 use rules::Sort;
 
 // What a condition is, by its tag.
@@ -26,24 +26,22 @@ fn sort_of(t: u8) -> Sort
 }
 
 // A NULL that is not empty.
-fn is_bad_null(t: u8, a: usize, e: usize) -> bool
-    ensures { result ≡ (eqb t 5 && ltb a e) }
+fn is_bad_null(x: Header) -> bool
+    ensures { result ≡ (eqb x.0 5 && ltb x.1 x.2) }
 {
-    if t != 5 {
-        return false;
-    }
-    a < e
+    x.0 == 5 && x.1 < x.2
 }
 
 // "04 identifier": 0 to 255 bytes.
-fn identifier(s: &[u8], at: usize, a: usize, e: usize, out: &mut [u8], o: usize) -> Part
-    requires { InElement s.now at a e o }
-    ensures { Did out.old out.new o a e (identified s.now at a e) result }
+fn identifier(s: &[u8], x: Header, at: Cursor, out: &mut [u8]) -> Result<Cursor, Refusal>
+    requires { InElement s.now at.dump x.1 x.2 at.book }
+    ensures { Did out.old out.new at.book x.1 x.2 (identified s.now at.dump x.1 x.2) result }
 {
-    if e - a <= 255 {
-        return Part::Took(e, put_record(out, o, 0x0127, s, a, e));
+    if x.2 - x.1 <= 255 {
+        let book = put_record(out, at.book, 0x0127, s, x.1, x.2);
+        return Ok(Cursor { dump: x.2, book });
     }
-    Part::Fails(Fault::BadSize, at)
+    Err(Refusal(Fault::BadSize, at.dump))
 }
 
 // The condition due at `at`, after k of its list, with so many levels left.
@@ -53,72 +51,69 @@ pub fn condition(
     levels: usize,
     k: usize,
     end: usize,
-    at: usize,
+    at: Cursor,
     out: &mut [u8],
-    o: usize,
-) -> Part
-    requires { InContainer s.now end at o }
-    ensures { Did out.old out.new o at end (condition s.now levels k end at) result × Forward at result }
+) -> Result<Cursor, Refusal>
+    requires { InContainer s.now end at.dump at.book }
+    ensures { Did out.old out.new at.book at.dump end (condition s.now levels k end at.dump) result × Forward at.dump result }
 {
     if levels == 0 {
-        if at < end {
-            return Part::Fails(Fault::TooDeep, at);
+        if at.dump < end {
+            return Err(Refusal(Fault::TooDeep, at.dump));
         }
-        return Part::Fails(Fault::Missing, end);
+        return Err(Refusal(Fault::Missing, end));
     }
-    match header(s, at, end) {
-        Head::No(f, p) => Part::Fails(f, p),
-        Head::At(t, a, e) => {
-            if is_bad_null(t, a, e) {
-                return Part::Fails(Fault::BadNull, at);
-            }
-            if 255 <= k {
-                return Part::Fails(Fault::ManyConditions, at);
-            }
-            return condition_as(s, levels - 1, sort_of(t), t, at, a, e, out, o);
-        }
+    let x = header(s, at.dump, end)?;
+    if is_bad_null(x) {
+        return Err(Refusal(Fault::BadNull, at.dump));
     }
+    if 255 <= k {
+        return Err(Refusal(Fault::ManyConditions, at.dump));
+    }
+    condition_as(s, levels - 1, sort_of(x.0), x, at, out)
 }
 
-// A condition of a sort, at `at`, its contents from a to e; what is inside it has so many levels left.
+// A condition of a sort; what is inside it has so many levels left.
 #[cycle(condition_tree)]
 fn condition_as(
     s: &[u8],
     levels: usize,
-    x: Sort,
-    t: u8,
-    at: usize,
-    a: usize,
-    e: usize,
+    y: Sort,
+    x: Header,
+    at: Cursor,
     out: &mut [u8],
-    o: usize,
-) -> Part
-    requires { InElement s.now at a e o }
-    ensures { Did out.old out.new o a e (condition_as s.now levels x t at a e) result }
+) -> Result<Cursor, Refusal>
+    requires { InElement s.now at.dump x.1 x.2 at.book }
+    ensures { Did out.old out.new at.book x.1 x.2 (condition_as s.now levels y x.0 at.dump x.1 x.2) result }
 {
-    match x {
-        Sort::Always => Part::Took(e, put_bare(out, o, 0x0126)),
-        Sort::Identifier => {
-            return identifier(s, at, a, e, out, o);
+    match y {
+        Sort::Always => {
+            let book = put_bare(out, at.book, 0x0126);
+            Ok(Cursor { dump: x.2, book })
         }
-        Sort::Not => negated(s, levels, at, a, e, out, o),
-        Sort::And => listed(s, levels, 0x012a, at, a, e, out, o),
-        Sort::Or => listed(s, levels, 0x012b, at, a, e, out, o),
-        Sort::Other => sealed(s, 0x0128, t, at, a, e, out, o),
+        Sort::Identifier => identifier(s, x, at, out),
+        Sort::Not => negated(s, levels, x, at, out),
+        Sort::And => listed(s, levels, 0x012a, x, at, out),
+        Sort::Or => listed(s, levels, 0x012b, x, at, out),
+        Sort::Other => sealed(s, 0x0128, x, at, out),
     }
 }
 
 // "A0 not, one inside".
 #[cycle(condition_tree)]
-fn negated(s: &[u8], levels: usize, at: usize, a: usize, e: usize, out: &mut [u8], o: usize) -> Part
-    requires { InElement s.now at a e o }
-    ensures { Did out.old out.new o a e (condition_as s.now levels Not 0 at a e) result }
+fn negated(
+    s: &[u8],
+    levels: usize,
+    x: Header,
+    at: Cursor,
+    out: &mut [u8],
+) -> Result<Cursor, Refusal>
+    requires { InElement s.now at.dump x.1 x.2 at.book }
+    ensures { Did out.old out.new at.book x.1 x.2 (condition_as s.now levels Not 0 at.dump x.1 x.2) result }
 {
-    let q = put_bare(out, o, 0x0129);
-    match condition(s, levels, 0, e, a, out, q) {
-        Part::Fails(f, p) => Part::Fails(f, p),
-        Part::Took(n, t) => ended(s, e, n, t),
-    }
+    let book = put_bare(out, at.book, 0x0129);
+    let at = condition(s, levels, 0, x.2, Cursor { dump: x.1, book }, out)?;
+    ended(s, x.2, at)
 }
 
 // A list of conditions, "each 2 to 255 inside, 2-byte count": the count is put when it is known.
@@ -127,48 +122,39 @@ fn listed(
     s: &[u8],
     levels: usize,
     kind: u16,
-    at: usize,
-    a: usize,
-    e: usize,
+    x: Header,
+    at: Cursor,
     out: &mut [u8],
-    o: usize,
-) -> Part
-    requires { InElement s.now at a e o }
-    ensures { Did out.old out.new o a e (listed kind e (repeat to_end (λ j f i. condition s.now levels j f i) (e - a) 0 e a)) result }
+) -> Result<Cursor, Refusal>
+    requires { InElement s.now at.dump x.1 x.2 at.book }
+    ensures { Did out.old out.new at.book x.1 x.2 (listed kind x.2 (repeat to_end (λ j f i. condition s.now levels j f i) (x.2 - x.1) 0 x.2 x.1)) result }
 {
-    let q = put_two(out, o, kind, 0, 0);
-    match conditions(s, levels, e, a, out, q) {
-        Many::Fails(f, p) => Part::Fails(f, p),
-        Many::Took(n, t, c) => {
-            if c < 2 {
-                return Part::Fails(Fault::Missing, e);
-            }
-            put_le16(out, o + 4, c as u16);
-            Part::Took(n, t)
-        }
+    let book = put_two(out, at.book, kind, 0, 0);
+    let (n, count) = conditions(s, levels, x.2, Cursor { dump: x.1, book }, out)?;
+    if count < 2 {
+        return Err(Refusal(Fault::Missing, x.2));
     }
+    put_le16(out, at.book + 4, count as u16);
+    Ok(n)
 }
 
-// The conditions of a list, from `at` to its end.
+// The conditions of a list, to its end; and how many they are.
 #[cycle(condition_tree)]
-fn conditions(s: &[u8], levels: usize, end: usize, at: usize, out: &mut [u8], o: usize) -> Many
-    requires { InContainer s.now end at o }
-    ensures { DidMany out.old out.new o at end (repeat to_end (λ j f i. condition s.now levels j f i) (end - at) 0 end at) result }
+fn conditions(
+    s: &[u8],
+    levels: usize,
+    end: usize,
+    at: Cursor,
+    out: &mut [u8],
+) -> Result<(Cursor, usize), Refusal>
+    requires { InContainer s.now end at.dump at.book }
+    ensures { DidMany out.old out.new at.book at.dump end (repeat to_end (λ j f i. condition s.now levels j f i) (end - at.dump) 0 end at.dump) result }
 {
-    let mut k = 0;
+    let mut count = 0;
     let mut n = at;
-    let mut p = o;
-    while n < end {
-        match condition(s, levels, k, end, n, out, p) {
-            Part::Fails(f, x) => {
-                return Many::Fails(f, x);
-            }
-            Part::Took(m, t) => {
-                n = m;
-                p = t;
-            }
-        }
-        k += 1;
+    while n.dump < end {
+        n = condition(s, levels, count, end, n, out)?;
+        count += 1;
     }
-    Many::Took(n, p, k)
+    Ok((n, count))
 }

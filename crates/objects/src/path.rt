@@ -5,45 +5,32 @@ ghost use Rattle.rules.specs.Objects.{path_from};
 ghost use Rattle.objects.specs.Did.{Did, Paired, InElement, InContainer};
 
 use crate::keep::ended;
-use crate::part::{Due, Part, stands};
+use crate::part::{Cursor, due};
 use crate::row::some_components;
-use elements::Fault;
+use elements::{Fault, Header, Refusal};
 use rules::{Need, Sequence};
 
-// The rule of a Path at `at`: components that end at i, j and k, and a sequence that was read to n and put to v.
-fn paired(at: usize, i: usize, j: usize, k: usize, n: usize, v: usize) -> Part
-    ensures { Paired at i j k n v result }
+// The rule of a Path at `at`: components that end at i, j and k, and a sequence that was read up to n.
+fn paired(at: usize, i: usize, j: usize, k: usize, n: Cursor) -> Result<Cursor, Refusal>
+    ensures { Paired at i j k n.dump n.book result }
 {
-    if i == j {
-        if j == k {
-            return Part::Took(n, v);
-        }
-        return Part::Fails(Fault::PathPair, at);
+    if (i == j) == (j == k) {
+        return Ok(n);
     }
-    if j == k {
-        return Part::Fails(Fault::PathPair, at);
-    }
-    Part::Took(n, v)
+    Err(Refusal(Fault::PathPair, at))
 }
 
-// A Path at `at` by its table, its contents from a to e: index and length stand both or neither.
-pub fn path(s: &[u8], q: Sequence, at: usize, a: usize, e: usize, out: &mut [u8], o: usize) -> Part
-    requires { (rows_of q ≡ path_rows_from (path_kind q)) × InElement s.now at a e o }
-    ensures { Did out.old out.new o a e (path_from s.now (path_kind q) at a e) result }
+// A Path by its table: index and length stand both or neither.
+pub fn path(s: &[u8], q: Sequence, x: Header, at: Cursor, out: &mut [u8]) -> Result<Cursor, Refusal>
+    requires { (rows_of q ≡ path_rows_from (path_kind q)) × InElement s.now at.dump x.1 x.2 at.book }
+    ensures { Did out.old out.new at.book x.1 x.2 (path_from s.now (path_kind q) at.dump x.1 x.2) result }
 {
-    match some_components(s, q, 0, 1, e, a, out, o) {
-        Part::Fails(f, p) => Part::Fails(f, p),
-        Part::Took(i, t0) => match some_components(s, q, 1, 2, e, i, out, t0) {
-            Part::Fails(f, p) => Part::Fails(f, p),
-            Part::Took(j, t) => match some_components(s, q, 2, 3, e, j, out, t) {
-                Part::Fails(f, p) => Part::Fails(f, p),
-                Part::Took(k, u) => match ended(s, e, k, u) {
-                    Part::Fails(f, p) => Part::Fails(f, p),
-                    Part::Took(n, v) => paired(at, i, j, k, n, v),
-                },
-            },
-        },
-    }
+    let inside = Cursor { dump: x.1, ..at };
+    let i = some_components(s, q, 0, 1, x.2, inside, out)?;
+    let j = some_components(s, q, 1, 2, x.2, i, out)?;
+    let k = some_components(s, q, 2, 3, x.2, j, out)?;
+    let n = ended(s, x.2, k)?;
+    paired(at.dump, i.dump, j.dump, k.dump, n)
 }
 
 // A Path of that table and tag where it is due, or may stand.
@@ -53,16 +40,19 @@ pub fn due_path(
     tag: u8,
     need: Need,
     end: usize,
-    at: usize,
+    at: Cursor,
     out: &mut [u8],
-    o: usize,
-) -> Part
-    requires { (rows_of q ≡ path_rows_from (path_kind q)) × InContainer s.now end at o }
-    ensures { Did out.old out.new o at end (component s.now tag need (path_from s.now (path_kind q)) end at) result }
+) -> Result<Cursor, Refusal>
+    requires { (rows_of q ≡ path_rows_from (path_kind q)) × InContainer s.now end at.dump at.book }
+    ensures { Did out.old out.new at.book at.dump end (component s.now tag need (path_from s.now (path_kind q)) end at.dump) result }
 {
-    match stands(s, tag, need, end, at) {
-        Due::Not(f, p) => Part::Fails(f, p),
-        Due::Absent => Part::Took(at, o),
-        Due::Here(a, e) => path(s, q, at, a, e, out, o),
-    }
+    due(
+        s,
+        tag,
+        need,
+        end,
+        at,
+        out,
+        |x, _, out| path(s, q, x, at, out),
+    )
 }

@@ -7,158 +7,145 @@ ghost use Rattle.rules.specs.Parts.{is_default, in_bounds, sized, payload, value
 ghost use Rattle.rules.specs.Tables.{rows_of};
 ghost use Rattle.objects.specs.Did.{Did, InElement, InContainer};
 
-use crate::part::{Due, Part, stands};
+use crate::part::{Cursor, due};
 use crate::records::put_one;
-use elements::{Fault, Form, Read, put_number, put_record, value_at};
+use elements::{Fault, Form, Header, Number, Read, Refusal, put_number, put_record, value_at};
 use rules::{Need, Row, Sequence, count_of, row_of};
 
 // "A component equal to its DEFAULT is not written": whether a number is the default.
-fn is_default(need: Need, n: bool, m: u32) -> bool
-    ensures { result ≡ is_default need n m }
+fn is_default(need: Need, n: Number) -> bool
+    ensures { result ≡ is_default need n.0 n.1 }
 {
     match need {
-        Need::Required => false,
-        Need::Optional => false,
-        Need::Default(d) => {
-            if n {
-                return false;
-            }
-            m == d
-        }
+        Need::Required | Need::Optional => false,
+        Need::Default(d) => !n.0 && n.1 == d,
     }
 }
 
 // The number of a sign and a magnitude.
-fn signed(n: bool, m: u32) -> i64
-    ensures { result ≡ signed n m }
+fn signed(n: Number) -> i64
+    ensures { result ≡ signed n.0 n.1 }
 {
-    if n {
-        return 0 - (m as i64);
+    if n.0 {
+        return -i64::from(n.1);
     }
-    m as i64
+    i64::from(n.1)
 }
 
-// Whether a number, by sign and magnitude, is in the bounds of a row.
-fn in_bounds(r: Row, n: bool, m: u32) -> bool
-    ensures { result ≡ in_bounds r n m }
+// Whether a number is in the bounds of a row.
+fn in_bounds(r: Row, n: Number) -> bool
+    ensures { result ≡ in_bounds r n.0 n.1 }
 {
-    let z = signed(n, m);
-    if z < r.low as i64 {
-        return false;
-    }
-    z <= r.high as i64
+    let z = signed(n);
+    i64::from(r.low) <= z && z <= i64::from(r.high)
 }
 
 // Its two's complement in 32 bits.
-fn twos(n: bool, m: u32) -> u32
-    ensures { result ≡ twos (signed n m) }
+fn twos(n: Number) -> u32
+    ensures { result ≡ twos (signed n.0 n.1) }
 {
-    if n {
-        if 0 < m {
-            return 4294967295 - (m - 1);
-        }
+    if n.0 {
+        return n.1.wrapping_neg();
     }
-    m
+    n.1
 }
 
-// The record of a number, told by sign and magnitude, of an element at `at` that ends at e.
-fn number_row(r: Row, n: bool, m: u32, at: usize, e: usize, out: &mut [u8], o: usize) -> Part
-    requires { (at + 2 ≤ e) × (e ≤ 32768) × (o ≤ 8 * at + 131072) }
-    ensures { Did out.old out.new o at e (valued r at e (payload Integer r [] n m)) result }
+// The record of a number, of an element that ends at `end`.
+fn number_row(r: Row, n: Number, end: usize, at: Cursor, out: &mut [u8]) -> Result<Cursor, Refusal>
+    requires { (at.dump + 2 ≤ end) × (end ≤ 32768) × (at.book ≤ 8 * at.dump + 131072) }
+    ensures { Did out.old out.new at.book at.dump end (valued r at.dump end (payload Integer r [] n.0 n.1)) result }
 {
-    let need = r.need;
-    if is_default(need, n, m) {
-        return Part::Fails(Fault::DefaultWritten, at);
+    if is_default(r.need, n) {
+        return Err(Refusal(Fault::DefaultWritten, at.dump));
     }
-    if in_bounds(r, n, m) {
-        return Part::Took(e, put_number(out, o, r.kind, twos(n, m)));
+    if in_bounds(r, n) {
+        let book = put_number(out, at.book, r.kind, twos(n));
+        return Ok(Cursor { dump: end, book });
     }
-    Part::Fails(Fault::OutOfRange, at)
+    Err(Refusal(Fault::OutOfRange, at.dump))
 }
 
 // The record of a BOOLEAN: one byte.
-fn boolean_row(r: Row, n: bool, m: u32, at: usize, e: usize, out: &mut [u8], o: usize) -> Part
-    requires { (m < 256) × (at + 2 ≤ e) × (e ≤ 32768) × (o ≤ 8 * at + 131072) }
-    ensures { Did out.old out.new o at e (valued r at e (payload Boolean r [] n m)) result }
+fn boolean_row(r: Row, n: Number, end: usize, at: Cursor, out: &mut [u8]) -> Result<Cursor, Refusal>
+    requires { (n.1 < 256) × (at.dump + 2 ≤ end) × (end ≤ 32768) × (at.book ≤ 8 * at.dump + 131072) }
+    ensures { Did out.old out.new at.book at.dump end (valued r at.dump end (payload Boolean r [] n.0 n.1)) result }
 {
-    let need = r.need;
-    if is_default(need, n, m) {
-        return Part::Fails(Fault::DefaultWritten, at);
+    if is_default(r.need, n) {
+        return Err(Refusal(Fault::DefaultWritten, at.dump));
     }
-    Part::Took(e, put_one(out, o, r.kind, m as u8))
+    let book = put_one(out, at.book, r.kind, n.1 as u8);
+    Ok(Cursor { dump: end, book })
 }
 
-// The record of bytes, where what was told of them, m, is in the bounds of the row.
+// The record of bytes, where what was told of them is in the bounds of the row.
 fn bytes_row(
     s: &[u8],
     r: Row,
-    n: bool,
-    m: u32,
-    at: usize,
-    a: usize,
-    e: usize,
+    n: Number,
+    x: Header,
+    at: Cursor,
     out: &mut [u8],
-    o: usize,
-) -> Part
-    requires { InElement s.now at a e o }
-    ensures { Did out.old out.new o at e (valued r at e (sized r (slice a e s.now) n m)) result }
+) -> Result<Cursor, Refusal>
+    requires { InElement s.now at.dump x.1 x.2 at.book }
+    ensures { Did out.old out.new at.book at.dump x.2 (valued r at.dump x.2 (sized r (slice x.1 x.2 s.now) n.0 n.1)) result }
 {
-    if in_bounds(r, n, m) {
-        return Part::Took(e, put_record(out, o, r.kind, s, a, e));
+    if in_bounds(r, n) {
+        let book = put_record(out, at.book, r.kind, s, x.1, x.2);
+        return Ok(Cursor { dump: x.2, book });
     }
-    Part::Fails(Fault::BadSize, at)
+    Err(Refusal(Fault::BadSize, at.dump))
 }
 
-// The record of what contents from a to e say: a number, by sign and magnitude.
+// The record of what an element's contents say.
 fn judged(
     s: &[u8],
     r: Row,
-    n: bool,
-    m: u32,
-    at: usize,
-    a: usize,
-    e: usize,
+    n: Number,
+    x: Header,
+    at: Cursor,
     out: &mut [u8],
-    o: usize,
-) -> Part
-    requires { (r.form ≡ Boolean → m < 256) × InElement s.now at a e o }
-    ensures { Did out.old out.new o at e (valued r at e (payload r.form r (slice a e s.now) n m)) result }
+) -> Result<Cursor, Refusal>
+    requires { (r.form ≡ Boolean → n.1 < 256) × InElement s.now at.dump x.1 x.2 at.book }
+    ensures { Did out.old out.new at.book at.dump x.2 (valued r at.dump x.2 (payload r.form r (slice x.1 x.2 s.now) n.0 n.1)) result }
 {
-    let form = r.form;
-    match form {
-        Form::Integer => number_row(r, n, m, at, e, out, o),
-        Form::Boolean => boolean_row(r, n, m, at, e, out, o),
-        Form::Octets => bytes_row(s, r, n, m, at, a, e, out, o),
-        Form::Text => bytes_row(s, r, n, m, at, a, e, out, o),
-        Form::Bits => Part::Took(e, put_number(out, o, r.kind, m)),
-        Form::Time => Part::Took(e, put_record(out, o, r.kind, s, a, e)),
-        Form::Null => Part::Took(e, put_record(out, o, r.kind, s, a, e)),
+    match r.form {
+        Form::Integer => number_row(r, n, x.2, at, out),
+        Form::Boolean => boolean_row(r, n, x.2, at, out),
+        Form::Octets | Form::Text => bytes_row(s, r, n, x, at, out),
+        Form::Bits => {
+            let book = put_number(out, at.book, r.kind, n.1);
+            Ok(Cursor { dump: x.2, book })
+        }
+        Form::Time | Form::Null => {
+            let book = put_record(out, at.book, r.kind, s, x.1, x.2);
+            Ok(Cursor { dump: x.2, book })
+        }
     }
 }
 
-// A row's element at `at`, its contents from a to e.
-fn row_body(s: &[u8], r: Row, at: usize, a: usize, e: usize, out: &mut [u8], o: usize) -> Part
-    requires { InElement s.now at a e o }
-    ensures { Did out.old out.new o at e (row_body s.now r at a e) result }
+// A row's element.
+fn row_body(s: &[u8], r: Row, x: Header, at: Cursor, out: &mut [u8]) -> Result<Cursor, Refusal>
+    requires { InElement s.now at.dump x.1 x.2 at.book }
+    ensures { Did out.old out.new at.book x.1 x.2 (row_body s.now r at.dump x.1 x.2) result }
 {
-    let form = r.form;
-    match value_at(form, s, at, a, e) {
-        Read::Refused(f, p) => Part::Fails(f, p),
-        Read::Took(n, m, _) => judged(s, r, n, m, at, a, e, out, o),
-    }
+    let Read(n, _) = value_at(r.form, s, at.dump, x.1, x.2)?;
+    judged(s, r, n, x, at, out)
 }
 
 // The component of a row, where it is due.
-fn component(s: &[u8], r: Row, end: usize, at: usize, out: &mut [u8], o: usize) -> Part
-    requires { InContainer s.now end at o }
-    ensures { Did out.old out.new o at end (component s.now r.tag r.need (row_body s.now r) end at) result }
+fn component(s: &[u8], r: Row, end: usize, at: Cursor, out: &mut [u8]) -> Result<Cursor, Refusal>
+    requires { InContainer s.now end at.dump at.book }
+    ensures { Did out.old out.new at.book at.dump end (component s.now r.tag r.need (row_body s.now r) end at.dump) result }
 {
-    let need = r.need;
-    match stands(s, r.tag, need, end, at) {
-        Due::Not(f, p) => Part::Fails(f, p),
-        Due::Absent => Part::Took(at, o),
-        Due::Here(a, e) => row_body(s, r, at, a, e, out, o),
-    }
+    due(
+        s,
+        r.tag,
+        r.need,
+        end,
+        at,
+        out,
+        |x, _, out| row_body(s, r, x, at, out),
+    )
 }
 
 // The components of a sequence from the i-th up to the last-th, in their order.
@@ -168,35 +155,29 @@ pub fn some_components(
     i: usize,
     last: usize,
     end: usize,
-    at: usize,
+    at: Cursor,
     out: &mut [u8],
-    o: usize,
-) -> Part
-    requires { (i ≤ last) × (last ≤ length (rows_of q)) × InContainer s.now end at o }
-    ensures { Did out.old out.new o at end (components s.now (slice i last (rows_of q)) end at) result }
+) -> Result<Cursor, Refusal>
+    requires { (i ≤ last) × (last ≤ length (rows_of q)) × InContainer s.now end at.dump at.book }
+    ensures { Did out.old out.new at.book at.dump end (components s.now (slice i last (rows_of q)) end at.dump) result }
 {
-    let mut k = i;
     let mut n = at;
-    let mut p = o;
-    while k < last {
-        match component(s, row_of(q, k), end, n, out, p) {
-            Part::Fails(f, x) => {
-                return Part::Fails(f, x);
-            }
-            Part::Took(m, t) => {
-                n = m;
-                p = t;
-            }
-        }
-        k += 1;
+    for k in i..last {
+        n = component(s, row_of(q, k), end, n, out)?;
     }
-    Part::Took(n, p)
+    Ok(n)
 }
 
 // The components of a sequence, in their order.
-pub fn components(s: &[u8], q: Sequence, end: usize, at: usize, out: &mut [u8], o: usize) -> Part
-    requires { InContainer s.now end at o }
-    ensures { Did out.old out.new o at end (components s.now (rows_of q) end at) result }
+pub fn components(
+    s: &[u8],
+    q: Sequence,
+    end: usize,
+    at: Cursor,
+    out: &mut [u8],
+) -> Result<Cursor, Refusal>
+    requires { InContainer s.now end at.dump at.book }
+    ensures { Did out.old out.new at.book at.dump end (components s.now (rows_of q) end at.dump) result }
 {
-    some_components(s, q, 0, count_of(q), end, at, out, o)
+    some_components(s, q, 0, count_of(q), end, at, out)
 }

@@ -7,51 +7,41 @@ ghost use Rattle.objects.specs.Did.{Did, Inside, both_flags, InElement, InContai
 
 use crate::class::any_sealed;
 use crate::keep::{ended, rest, rest_in, sealed};
-use crate::part::{Due, Part, stands};
+use crate::part::{Cursor, due};
 use crate::path::{due_path, path};
 use crate::row::components;
-use elements::{Fault, Form, Head, Read, header};
+use elements::{Fault, Form, Header, Number, Read, Refusal, header};
 use rules::{Need, ObjectType, Sequence};
 
-// "Private key, as 30 { Path, modulusLength, rest }": its contents from a to e.
-fn private_key(s: &[u8], a: usize, e: usize, out: &mut [u8], o: usize) -> Part
-    requires { InContainer s.now e a o }
-    ensures { Inside out.old out.new o a e (private_key s.now) result }
+// "Private key, as 30 { Path, modulusLength, rest }": its contents.
+fn private_key(s: &[u8], end: usize, at: Cursor, out: &mut [u8]) -> Result<Cursor, Refusal>
+    requires { InContainer s.now end at.dump at.book }
+    ensures { Inside out.old out.new at.book at.dump end (private_key s.now) result }
 {
-    match due_path(s, Sequence::Path, 0x30, Need::Required, e, a, out, o) {
-        Part::Fails(f, p) => Part::Fails(f, p),
-        Part::Took(n, q) => match components(s, Sequence::PrivateKeyAttributes, e, n, out, q) {
-            Part::Fails(f, p) => Part::Fails(f, p),
-            Part::Took(m, t) => rest_in(s, Sequence::PrivateKeyAttributes, e, m, out, t),
-        },
-    }
+    let at = due_path(s, Sequence::Path, 0x30, Need::Required, end, at, out)?;
+    let at = components(s, Sequence::PrivateKeyAttributes, end, at, out)?;
+    rest_in(s, Sequence::PrivateKeyAttributes, end, at, out)
 }
 
 // "Path where the first element has tag 30, otherwise that element sealed".
-fn certificate_value(s: &[u8], end: usize, at: usize, out: &mut [u8], o: usize) -> Part
-    requires { InContainer s.now end at o }
-    ensures { Did out.old out.new o at end (element s.now (certificate_value s.now) end at) result }
+fn certificate_value(s: &[u8], end: usize, at: Cursor, out: &mut [u8]) -> Result<Cursor, Refusal>
+    requires { InContainer s.now end at.dump at.book }
+    ensures { Did out.old out.new at.book at.dump end (element s.now (certificate_value s.now) end at.dump) result }
 {
-    match header(s, at, end) {
-        Head::No(f, p) => Part::Fails(f, p),
-        Head::At(t, a, e) => {
-            if t == 0x30 {
-                return path(s, Sequence::Path, at, a, e, out, o);
-            }
-            sealed(s, 0x0184, t, at, a, e, out, o)
-        }
+    let x = header(s, at.dump, end)?;
+    if x.0 == 0x30 {
+        return path(s, Sequence::Path, x, at, out);
     }
+    sealed(s, 0x0184, x, at, out)
 }
 
-// "Certificate, as 30 { .., rest }": its contents from a to e.
-fn certificate(s: &[u8], a: usize, e: usize, out: &mut [u8], o: usize) -> Part
-    requires { InContainer s.now e a o }
-    ensures { Inside out.old out.new o a e (certificate s.now) result }
+// "Certificate, as 30 { .., rest }": its contents.
+fn certificate(s: &[u8], end: usize, at: Cursor, out: &mut [u8]) -> Result<Cursor, Refusal>
+    requires { InContainer s.now end at.dump at.book }
+    ensures { Inside out.old out.new at.book at.dump end (certificate s.now) result }
 {
-    match certificate_value(s, e, a, out, o) {
-        Part::Fails(f, p) => Part::Fails(f, p),
-        Part::Took(n, q) => rest(s, 0x018f, &s[..0], e, n, out, q),
-    }
+    let at = certificate_value(s, end, at, out)?;
+    rest(s, 0x018f, &[], end, at, out)
 }
 
 // Whether the flag word of the element at a has bits 6 and 7 both set.
@@ -60,106 +50,133 @@ fn both_flags(s: &[u8], a: usize, e: usize) -> bool
     ensures { result ≡ both_flags s.now a e }
 {
     match elements::element(Form::Bits, 0x03, s, a, e) {
-        Read::Took(_, m, _) => m / 64 % 4 == 3,
-        Read::Refused(_, _) => false,
+        Ok(Read(Number(_, m), _)) => m / 64 % 4 == 3,
+        Err(_) => false,
     }
 }
 
 // The components of password attributes, their Path and their rest.
-fn password_parts(s: &[u8], a: usize, e: usize, out: &mut [u8], o: usize) -> Part
-    requires { InContainer s.now e a o }
-    ensures { Did out.old out.new o a e (password_parts s.now e a) result }
+fn password_parts(s: &[u8], end: usize, at: Cursor, out: &mut [u8]) -> Result<Cursor, Refusal>
+    requires { InContainer s.now end at.dump at.book }
+    ensures { Did out.old out.new at.book at.dump end (password_parts s.now end at.dump) result }
 {
-    match components(s, Sequence::PasswordAttributes, e, a, out, o) {
-        Part::Fails(f, p) => Part::Fails(f, p),
-        Part::Took(n, q) => match due_path(s, Sequence::Path, 0x30, Need::Optional, e, n, out, q) {
-            Part::Fails(f, p) => Part::Fails(f, p),
-            Part::Took(m, t) => rest_in(s, Sequence::PasswordAttributes, e, m, out, t),
-        },
-    }
+    let at = components(s, Sequence::PasswordAttributes, end, at, out)?;
+    let at = due_path(s, Sequence::Path, 0x30, Need::Optional, end, at, out)?;
+    rest_in(s, Sequence::PasswordAttributes, end, at, out)
 }
 
-// "Password": the attributes at `at`, their contents from a to e; pwdFlags bits 6 and 7 are not both set.
-fn password(s: &[u8], at: usize, a: usize, e: usize, out: &mut [u8], o: usize) -> Part
-    requires { InElement s.now at a e o }
-    ensures { Did out.old out.new o a e (password s.now at a e) result }
+// "Password": its attributes; pwdFlags bits 6 and 7 are not both set.
+fn password(s: &[u8], x: Header, at: Cursor, out: &mut [u8]) -> Result<Cursor, Refusal>
+    requires { InElement s.now at.dump x.1 x.2 at.book }
+    ensures { Did out.old out.new at.book x.1 x.2 (password s.now at.dump x.1 x.2) result }
 {
-    match password_parts(s, a, e, out, o) {
-        Part::Fails(f, p) => Part::Fails(f, p),
-        Part::Took(n, q) => {
-            if both_flags(s, a, e) {
-                return Part::Fails(Fault::PasswordFlags, at);
-            }
-            Part::Took(n, q)
-        }
+    let n = password_parts(s, x.2, Cursor { dump: x.1, ..at }, out)?;
+    if both_flags(s, x.1, x.2) {
+        return Err(Refusal(Fault::PasswordFlags, at.dump));
     }
+    Ok(n)
 }
 
-fn due_private(s: &[u8], end: usize, at: usize, out: &mut [u8], o: usize) -> Part
-    requires { InContainer s.now end at o }
-    ensures { Did out.old out.new o at end (component s.now 0x30 Required (private_key s.now) end at) result }
+// A private key where it is due.
+fn due_private(s: &[u8], end: usize, at: Cursor, out: &mut [u8]) -> Result<Cursor, Refusal>
+    requires { InContainer s.now end at.dump at.book }
+    ensures { Did out.old out.new at.book at.dump end (component s.now 0x30 Required (private_key s.now) end at.dump) result }
 {
-    match stands(s, 0x30, Need::Required, end, at) {
-        Due::Not(f, p) => Part::Fails(f, p),
-        Due::Absent => Part::Took(at, o),
-        Due::Here(a, e) => private_key(s, a, e, out, o),
-    }
+    due(
+        s,
+        0x30,
+        Need::Required,
+        end,
+        at,
+        out,
+        |x, at, out| private_key(s, x.2, at, out),
+    )
 }
 
-fn due_certificate(s: &[u8], end: usize, at: usize, out: &mut [u8], o: usize) -> Part
-    requires { InContainer s.now end at o }
-    ensures { Did out.old out.new o at end (component s.now 0x30 Required (certificate s.now) end at) result }
+// A certificate where it is due.
+fn due_certificate(s: &[u8], end: usize, at: Cursor, out: &mut [u8]) -> Result<Cursor, Refusal>
+    requires { InContainer s.now end at.dump at.book }
+    ensures { Did out.old out.new at.book at.dump end (component s.now 0x30 Required (certificate s.now) end at.dump) result }
 {
-    match stands(s, 0x30, Need::Required, end, at) {
-        Due::Not(f, p) => Part::Fails(f, p),
-        Due::Absent => Part::Took(at, o),
-        Due::Here(a, e) => certificate(s, a, e, out, o),
-    }
+    due(
+        s,
+        0x30,
+        Need::Required,
+        end,
+        at,
+        out,
+        |x, at, out| certificate(s, x.2, at, out),
+    )
 }
 
-fn due_password(s: &[u8], end: usize, at: usize, out: &mut [u8], o: usize) -> Part
-    requires { InContainer s.now end at o }
-    ensures { Did out.old out.new o at end (component s.now 0x30 Required (password s.now) end at) result }
+// A password where it is due.
+fn due_password(s: &[u8], end: usize, at: Cursor, out: &mut [u8]) -> Result<Cursor, Refusal>
+    requires { InContainer s.now end at.dump at.book }
+    ensures { Did out.old out.new at.book at.dump end (component s.now 0x30 Required (password s.now) end at.dump) result }
 {
-    match stands(s, 0x30, Need::Required, end, at) {
-        Due::Not(f, p) => Part::Fails(f, p),
-        Due::Absent => Part::Took(at, o),
-        Due::Here(a, e) => password(s, at, a, e, out, o),
-    }
+    due(
+        s,
+        0x30,
+        Need::Required,
+        end,
+        at,
+        out,
+        |x, _, out| password(s, x, at, out),
+    )
 }
 
 // The one element that a type is.
-fn type_part(s: &[u8], x: ObjectType, end: usize, at: usize, out: &mut [u8], o: usize) -> Part
-    requires { InContainer s.now end at o }
-    ensures { Did out.old out.new o at end (type_part s.now x end at) result }
+fn type_part(
+    s: &[u8],
+    y: ObjectType,
+    end: usize,
+    at: Cursor,
+    out: &mut [u8],
+) -> Result<Cursor, Refusal>
+    requires { InContainer s.now end at.dump at.book }
+    ensures { Did out.old out.new at.book at.dump end (type_part s.now y end at.dump) result }
 {
-    match x {
-        ObjectType::PrivateKey => due_private(s, end, at, out, o),
-        ObjectType::Certificate => due_certificate(s, end, at, out, o),
-        ObjectType::Password => due_password(s, end, at, out, o),
-        ObjectType::Sealed => any_sealed(s, 0x01a0, end, at, out, o),
+    match y {
+        ObjectType::PrivateKey => due_private(s, end, at, out),
+        ObjectType::Certificate => due_certificate(s, end, at, out),
+        ObjectType::Password => due_password(s, end, at, out),
+        ObjectType::Sealed => any_sealed(s, 0x01a0, end, at, out),
     }
 }
 
-// "Type is one element": its contents from a to e.
-fn type_body(s: &[u8], x: ObjectType, a: usize, e: usize, out: &mut [u8], o: usize) -> Part
-    requires { InContainer s.now e a o }
-    ensures { Inside out.old out.new o a e (type_body s.now x) result }
+// "Type is one element": its contents.
+fn type_body(
+    s: &[u8],
+    y: ObjectType,
+    end: usize,
+    at: Cursor,
+    out: &mut [u8],
+) -> Result<Cursor, Refusal>
+    requires { InContainer s.now end at.dump at.book }
+    ensures { Inside out.old out.new at.book at.dump end (type_body s.now y) result }
 {
-    match type_part(s, x, e, a, out, o) {
-        Part::Fails(f, p) => Part::Fails(f, p),
-        Part::Took(n, q) => ended(s, e, n, q),
-    }
+    let at = type_part(s, y, end, at, out)?;
+    ended(s, end, at)
 }
 
 // The type where it is due.
-pub fn due_type(s: &[u8], x: ObjectType, end: usize, at: usize, out: &mut [u8], o: usize) -> Part
-    requires { InContainer s.now end at o }
-    ensures { Did out.old out.new o at end (component s.now 0xa1 Required (type_body s.now x) end at) result }
+pub fn due_type(
+    s: &[u8],
+    y: ObjectType,
+    end: usize,
+    at: Cursor,
+    out: &mut [u8],
+) -> Result<Cursor, Refusal>
+    requires { InContainer s.now end at.dump at.book }
+    ensures { Did out.old out.new at.book at.dump end (component s.now 0xa1 Required (type_body s.now y) end at.dump) result }
 {
-    match stands(s, 0xa1, Need::Required, end, at) {
-        Due::Not(f, p) => Part::Fails(f, p),
-        Due::Absent => Part::Took(at, o),
-        Due::Here(a, e) => type_body(s, x, a, e, out, o),
-    }
+    due(
+        s,
+        0xa1,
+        Need::Required,
+        end,
+        at,
+        out,
+        |x, at, out| type_body(s, y, x.2, at, out),
+    )
 }

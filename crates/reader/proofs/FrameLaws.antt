@@ -11,58 +11,56 @@ use Rattle.elements.specs.declared.fault.Fault.{Fault}
 use Rattle.elements.specs.declared.fault.Fault.TheVariants.{RecordBroken, RecordMissing, RecordKind, FileLength, PathLength, RecordOver}
 use Rattle.elements.specs.ChoiceLaws.{by_choose}
 use Rattle.elements.specs.Lists.{Bytes}
-use Rattle.reader.specs.declared.frame.Span.{Span}
-use Rattle.reader.specs.declared.frame.Span.TheVariants.{From, No}
-use Rattle.reader.specs.declared.frame.Framed.{Framed}
-use Rattle.reader.specs.declared.frame.Framed.TheVariants as file
-use Rattle.reader.specs.declared.frame.Chain.TheVariants.{Sound, Unsound}
 use Rattle.rules.specs.Files.{File, FrameRead, framed, broken, Files, files, broken_at, two, record_end, fits, frame_of, file_in, frame, named_file, named_frame, whole, cons_file, more_files, frames}
 use Rattle.cards.specs.Fits.{Sorted}
 use Rattle.cards.proofs.FrameLaws.{by_sort_lem}
-use Rattle.reader.specs.Frame.{Spanned, framed_as, Inner, Path, FramesTold}
+use Rattle.reader.specs.Frame.{Spanned, framed_as, Inner, Path, FramesTold, Framed, Spanning, fine_so, framed_at, span}
+use Rattle.elements.specs.Answer.{refused}
+use Rattle.elements.specs.AnswerLaws.{answer_or, refused_same}
+use Rattle.reader.specs.declared.frame.Span.{Span}
 
-no_from : {x : Fault} {p k a e : ℕ} → No x p ≡ From k a e → ⊥
+no_from : {x : Fault} {p k a e : ℕ} → refused x p ≡ span k a e → ⊥
 no_from z = let y : ◌≡◌ {A = ℕ} 0 1 = cc in omega arith
 
-broken_file : {x : Fault} {p k n a e : ℕ} → file.Broken x p ≡ file.File k n a e → ⊥
+broken_file : {x : Fault} {p k n a e : ℕ} → refused x p ≡ framed_at k n a e → ⊥
 broken_file z = let y : ◌≡◌ {A = ℕ} 0 1 = cc in omega arith
 
 -- the ways through `record_at`
 module _ (s : List ℕ) (low high at : ℕ) where
-  pub span_missing : length s ≤ at → Spanned s low high at (No RecordMissing at)
+  pub span_missing : length s ≤ at → Spanned s low high at (refused RecordMissing at)
   unfolding frame_of
   span_missing h = record { is = λ inner. rw (le-leb (length s) at h) refl; inside = λ k a e z. absurd (no_from z) }
 
   module _ (h : at < length s) where
-    pub span_short : length s < at + 4 → Spanned s low high at (No RecordBroken at)
+    pub span_short : length s < at + 4 → Spanned s low high at (refused RecordBroken at)
     unfolding frame_of
     span_short i = record { is = λ inner. rw (lt-leb (length s) at h, lt-ltb (length s) (at + 4) i) refl; inside = λ k a e z. absurd (no_from z) }
 
     module _ (i : at + 4 ≤ length s) {n : ℕ} (k : n ≡ two s at) where
-      pub span_small : n < 2 → Spanned s low high at (No RecordBroken at)
+      pub span_small : n < 2 → Spanned s low high at (refused RecordBroken at)
       unfolding frame_of
       span_small j = record { is = λ inner. rw (lt-leb (length s) at h, le-ltb (length s) (at + 4) i, ← k, lt-ltb n 2 j) refl; inside = λ k a e z. absurd (no_from z) }
 
       module _ (j : 2 ≤ n) where
-        pub span_long : length s < at + 2 + n → Spanned s low high at (No RecordBroken at)
+        pub span_long : length s < at + 2 + n → Spanned s low high at (refused RecordBroken at)
         unfolding frame_of
         span_long l = record { is = λ inner. rw (lt-leb (length s) at h, le-ltb (length s) (at + 4) i, ← k, le-ltb n 2 j, lt-ltb (length s) (at + 2 + n) l) refl; inside = λ k a e z. absurd (no_from z) }
 
         module _ (l : at + 2 + n ≤ length s) {m : ℕ} (q : m ≡ two s (at + 2)) where
-          pub span_below : m < low → Spanned s low high at (No RecordKind at)
+          pub span_below : m < low → Spanned s low high at (refused RecordKind at)
           unfolding frame_of
           span_below e = record { is = λ inner. rw (lt-leb (length s) at h, le-ltb (length s) (at + 4) i, ← k, le-ltb n 2 j, le-ltb (length s) (at + 2 + n) l, ← q, lt-leb low m e) refl; inside = λ k a b z. absurd (no_from z) }
 
           module _ (e : low ≤ m) where
-            pub span_above : high < m → Spanned s low high at (No RecordKind at)
+            pub span_above : high < m → Spanned s low high at (refused RecordKind at)
             unfolding frame_of
             span_above f = record { is = λ inner. rw (lt-leb (length s) at h, le-ltb (length s) (at + 4) i, ← k, le-ltb n 2 j, le-ltb (length s) (at + 2 + n) l, ← q, le-leb low m e, lt-leb m high f) refl; inside = λ k a b z. absurd (no_from z) }
 
-            pub span_from : m ≤ high → Spanned s low high at (From m (at + 4) (at + 2 + n))
+            pub span_from : m ≤ high → Spanned s low high at (span m (at + 4) (at + 2 + n))
             unfolding frame_of
             span_from f = record {
               is = λ inner. rw (lt-leb (length s) at h, le-ltb (length s) (at + 4) i, ← k, le-ltb n 2 j, le-ltb (length s) (at + 2 + n) l, ← q, le-leb low m e, le-leb m high f) refl;
-              inside = λ k a b z. let u : at + 4 ≡ a = cc in let v : at + 2 + n ≡ b = cc in (sym u, omega arith, omega arith);
+              inside = λ k a b z. let u : at + 4 ≡ a = ap (λ r. (answer_or {A = Span} (record { 0 = k; 1 = a; 2 = b }) r).1) z in let v : at + 2 + n ≡ b = ap (λ r. (answer_or {A = Span} (record { 0 = k; 1 = a; 2 = b }) r).2) z in (sym u, omega arith, omega arith);
             }
 
 -- the ways through `file_in`
@@ -98,31 +96,31 @@ module _ (at kind : ℕ) (P : FrameRead → Type 0) (bad : (x : Fault) → P (br
 
 -- what a file is known for that is framed
 module _ (at : ℕ) (r : Framed) where
-  not_framed : {x : Fault} {k n a e : ℕ} → broken x at ≡ framed_as at r → r ≡ file.File k n a e → ⊥
+  not_framed : {x : Fault} {k n a e : ℕ} → broken x at ≡ framed_as at r → r ≡ framed_at k n a e → ⊥
   not_framed {x} {k} {n} {a} {e} q z =
       let w : broken x at ≡ framed (record { place = at; kind = k; named = n; start = a; stop = e }) = rw z at q in
       let y : ◌≡◌ {A = ℕ} 0 1 = cc in
       omega arith
 
-  pub is_framed : (f : File) {k n a e : ℕ} → framed f ≡ framed_as at r → r ≡ file.File k n a e → (f.kind ≡ k) × (f.named ≡ n) × (f.start ≡ a) × (f.stop ≡ e)
+  pub is_framed : (f : File) {k n a e : ℕ} → framed f ≡ framed_as at r → r ≡ framed_at k n a e → (f.kind ≡ k) × (f.named ≡ n) × (f.start ≡ a) × (f.stop ≡ e)
   is_framed f {k} {n} {a} {e} q z =
       let w : framed f ≡ framed (record { place = at; kind = k; named = n; start = a; stop = e }) = rw z at q in
       let y : f ≡ record { place = at; kind = k; named = n; start = a; stop = e } = cc in
       (ap (λ (g : File). g.kind) y, ap (λ (g : File). g.named) y, ap (λ (g : File). g.start) y, ap (λ (g : File). g.stop) y)
 
-pub inner_none : (s : List ℕ) (at : ℕ) (x : Fault) (p : ℕ) → Inner s at (file.Broken x p)
+pub inner_none : (s : List ℕ) (at : ℕ) (x : Fault) (p : ℕ) → Inner s at (refused x p)
 inner_none s at x p = record { is = λ k n a e z. absurd (broken_file z) }
 
-pub path_none : (s : List ℕ) (at : ℕ) (x : Fault) (p : ℕ) → Path s at (file.Broken x p)
+pub path_none : (s : List ℕ) (at : ℕ) (x : Fault) (p : ℕ) → Path s at (refused x p)
 path_none s at x p = record { is = λ k n a e z. absurd (broken_file z) }
 
 -- the ways through `frame`
-module _ {s : List ℕ} {kind at : ℕ} {w : Span} (d : Spanned s kind kind at w) where
-  pub frame_broken : {x : Fault} {p : ℕ} → w ≡ No x p → frame s kind at ≡ broken x p
+module _ {s : List ℕ} {kind at : ℕ} {w : Spanning} (d : Spanned s kind kind at w) where
+  pub frame_broken : {x : Fault} {p : ℕ} → w ≡ refused x p → frame s kind at ≡ broken x p
   unfolding frame
   frame_broken z = d.is (λ k a e. file_in s at k 0 a e) ∙ rw z refl
 
-  module _ {k a e : ℕ} (z : w ≡ From k a e) where
+  module _ {k a e : ℕ} (z : w ≡ span k a e) where
     pub frame_file : (r : Framed) → file_in [] at k 0 a e ≡ framed_as at r → frame s kind at ≡ framed_as at r
     unfolding frame file_in
     frame_file r q = d.is (λ k a e. file_in s at k 0 a e) ∙ rw z q
@@ -137,7 +135,7 @@ module _ {s : List ℕ} {kind at : ℕ} {w : Span} (d : Spanned s kind kind at w
         q
 
 -- where a record's inside lies
-module _ {s : List ℕ} {low high at : ℕ} {w : Span} (d : Spanned s low high at w) {k a e : ℕ} (z : w ≡ From k a e) where
+module _ {s : List ℕ} {low high at : ℕ} {w : Spanning} (d : Spanned s low high at w) {k a e : ℕ} (z : w ≡ span k a e) where
   pub frame_start : length s ≤ 32768 → a ≤ 32768
   frame_start l = let i = d.inside k a e z in omega arith
 
@@ -168,12 +166,12 @@ module _ (s : List ℕ) (at kind a e : ℕ) where
       named_file_lem r j q = rw (lt-leb e a h, ← k, le-ltb n 1 i, le-ltb 64 n j) q
 
 -- the ways through `named_frame`
-module _ {s : List ℕ} {at : ℕ} {w : Span} (d : Spanned s 3 4 at w) where
-  pub named_broken : {x : Fault} {p : ℕ} → w ≡ No x p → named_frame s at ≡ broken x p
+module _ {s : List ℕ} {at : ℕ} {w : Spanning} (d : Spanned s 3 4 at w) where
+  pub named_broken : {x : Fault} {p : ℕ} → w ≡ refused x p → named_frame s at ≡ broken x p
   unfolding named_frame
   named_broken z = d.is (named_file s at) ∙ rw z refl
 
-  module _ {k a e : ℕ} (z : w ≡ From k a e) where
+  module _ {k a e : ℕ} (z : w ≡ span k a e) where
     pub named_framed : (r : Framed) → named_file s at k a e ≡ framed_as at r → named_frame s at ≡ framed_as at r
     unfolding named_frame
     named_framed r q = d.is (named_file s at) ∙ rw z q
@@ -248,25 +246,25 @@ module _ {s : List ℕ} {stop at i : ℕ} (h : Fitting s stop at i) where
 
 -- the ways through `whole_frame`
 module _ (s : List ℕ) (at : ℕ) {r : Framed} (e : named_frame s at ≡ framed_as at r) where
-  pub whole_broken : {x : Fault} {p : ℕ} → r ≡ file.Broken x p → whole s (named_frame s at) ≡ broken x p
+  pub whole_broken : {x : Fault} {p : ℕ} → r ≡ refused x p → whole s (named_frame s at) ≡ broken x p
   whole_broken z = rw (e, z) refl
 
-  module _ {k n a b : ℕ} (z : r ≡ file.File k n a b) where
-    pub whole_transparent : k ≡ 3 → whole s (named_frame s at) ≡ framed_as at (file.File k n a b)
+  module _ {k n a b : ℕ} (z : r ≡ framed_at k n a b) where
+    pub whole_transparent : k ≡ 3 → whole s (named_frame s at) ≡ framed_as at (framed_at k n a b)
     whole_transparent q = rw (e, z, q) refl
 
     module _ (q : k ≡ 3 → ⊥) {t : Bool} (f : t ≡ fits s (b - a) b a) where
-      pub whole_fits : t ≡ true → whole s (named_frame s at) ≡ framed_as at (file.File k n a b)
+      pub whole_fits : t ≡ true → whole s (named_frame s at) ≡ framed_as at (framed_at k n a b)
       whole_fits y = rw (e, z, ne_eqb k 3 q, sym f ∙ y) refl
 
       pub whole_over : t ≡ false → whole s (named_frame s at) ≡ broken RecordOver at
       whole_over y = rw (e, z, ne_eqb k 3 q, sym f ∙ y) refl
 
-    pub inner_so : Inner s at r → Inner s at (file.File k n a b)
+    pub inner_so : Inner s at r → Inner s at (framed_at k n a b)
     inner_so d = rw z at d
 
 -- where a file lies
-module _ {s : List ℕ} {at : ℕ} {r : Framed} (i : Inner s at r) {k n a e : ℕ} (z : r ≡ file.File k n a e) where
+module _ {s : List ℕ} {at : ℕ} {r : Framed} (i : Inner s at r) {k n a e : ℕ} (z : r ≡ framed_at k n a e) where
   pub inner_low : at + 4 ≤ a
   inner_low = (i.is k n a e z).0
 
@@ -344,16 +342,16 @@ module _ {s : List ℕ} {at i : ℕ} (h : Chained s at i) where
     left (suc k) e = (k, refl)
 
     module _ (r : Framed) (q : whole s (named_frame s i) ≡ framed_as i r) where
-      pub chained_broken : {x : Fault} {p : ℕ} → r ≡ file.Broken x p → FramesTold s at (Unsound x p)
+      pub chained_broken : {x : Fault} {p : ℕ} → r ≡ refused x p → FramesTold s at (refused x p)
       chained_broken {x} {p} z =
           let t = left h.turns refl in
           let w : frames s h.turns i ≡ broken_at x p = frames_some s h.turns t.0 i (broken x p) t.1 l (q ∙ rw z refl) in
           record {
             sound = λ c. let y : ◌≡◌ {A = ℕ} 0 1 = cc in absurd (omega arith);
-            unsound = λ y b c. let u : x ≡ y = cc in let v : p ≡ b = cc in rw (u, v) at (h.unsound x p w);
+            unsound = λ y b c. let u = refused_same c in rw (u.0, u.1) at (h.unsound x p w);
           }
 
-      pub chained_next : {k n a e : ℕ} → Inner s i r → r ≡ file.File k n a e → Chained s at e
+      pub chained_next : {k n a e : ℕ} → Inner s i r → r ≡ framed_at k n a e → Chained s at e
       chained_next {k} {n} {a} {e} d z =
           let t = left h.turns refl in
           let f : File = record { place = i; kind = k; named = n; start = a; stop = e } in
@@ -367,10 +365,10 @@ module _ {s : List ℕ} {at i : ℕ} (h : Chained s at i) where
             unsound = λ x p c. h.unsound x p (w ∙ rw c refl);
           }
 
-      pub chained_less : {k n a e : ℕ} → Inner s i r → r ≡ file.File k n a e → length s - e < length s - i
+      pub chained_less : {k n a e : ℕ} → Inner s i r → r ≡ framed_at k n a e → length s - e < length s - i
       chained_less {k} {n} {a} {e} d z = let b = d.is k n a e z in omega arith
 
-  pub chained_all : length s ≤ i → FramesTold s at Sound
+  pub chained_all : length s ≤ i → FramesTold s at fine_so
   chained_all l = record {
     sound = λ _. h.sound [] (frames_over s h.turns i l);
     unsound = λ x p c. let y : ◌≡◌ {A = ℕ} 0 1 = cc in absurd (omega arith);

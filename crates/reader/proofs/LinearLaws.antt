@@ -10,8 +10,6 @@ use Rattle.elements.specs.Lists.{Bytes}
 use Rattle.elements.specs.Put.{Put}
 use Rattle.elements.specs.PutLaws.{put_none, put_put}
 use Rattle.elements.specs.Record.{record_bytes}
-use Rattle.objects.specs.declared.part.Many.{Many}
-use Rattle.objects.specs.declared.part.Many.TheVariants as many
 use Rattle.files.specs.declared.holder.Holder.TheVariants as holder
 use Rattle.rules.specs.Reading.{Res, fails}
 use Rattle.rules.specs.declared.site.Site.{Site}
@@ -24,6 +22,8 @@ use Rattle.objects.specs.RepeatLaws.{Going, going_none, going_step, going_stop, 
 use Rattle.files.specs.Filing.{DidObjects, did_objects, fell_objects, filled_up}
 use Rattle.files.specs.ObjectsLaws.{objects_open, objects_small, objects_few, objects_same, objects_kept, objects_front}
 use Rattle.reader.specs.Linear.{record_at, records_in, by_kind}
+use Rattle.objects.specs.Did.{Many, came_with}
+use Rattle.elements.specs.Answer.{refused}
 
 -- the loop over the records: those before n were read, and those from n on fit
 pub record Records (s : List ℕ) (site : Site) (entry : ℕ) (a b u v : List ℕ) (end at o k j n p : ℕ) : Type 0 where
@@ -58,7 +58,7 @@ records_start {s} site entry a u {end} {at} o k b i l f h m q = record {
 }
 
 module _ {s : List ℕ} {site : Site} {entry : ℕ} {a b u v : List ℕ} {end at o k j n p : ℕ} (h : Records s site entry a b u v end at o k j n p) where
-  pub records_all : end ≤ n → DidObjects a b u v o at end k (records_in s site entry k end at) (many.Took n p j)
+  pub records_all : end ≤ n → DidObjects a b u v o at end k (records_in s site entry k end at) (came_with n p j)
   records_all l = rw (going_stop h.going (le-ltb n end l)) (did_objects {n = n} h.going.put h.marks h.low h.high h.small h.few)
 
   pub records_few : j ≤ 128
@@ -101,14 +101,14 @@ module _ {s : List ℕ} {site : Site} {entry : ℕ} {a b u v : List ℕ} {end at
         unfolding record_in
         is_record = rw k' at d
 
-        pub records_fell : {f : Fault} {y : ℕ} → w ≡ many.Fails f y → DidObjects a c u x o at end k (records_in s site entry k end at) (many.Fails f y)
+        pub records_fell : {f : Fault} {y : ℕ} → w ≡ refused f y → DidObjects a c u x o at end k (records_in s site entry k end at) (refused f y)
         records_fell {f} {y} z = failed (record_at s site entry j end n) refl (rw z at is_record)
           where
-            failed : (r : Res) → record_at s site entry j end n ≡ r → DidObjects b c v x p (n + 2) (record_end s n) j r (many.Fails f y) → DidObjects a c u x o at end k (records_in s site entry k end at) (many.Fails f y)
+            failed : (r : Res) → record_at s site entry j end n ≡ r → DidObjects b c v x p (n + 2) (record_end s n) j r (refused f y) → DidObjects a c u x o at end k (records_in s site entry k end at) (refused f y)
             failed (Rattle.rules.specs.Reading.took _ _ _) q x6 = elim x6 [ ]
             failed (fails _ _) q (fell_objects i g) = rw (going_break h.going (lt-ltb n end l) l q) (fell_objects (i ∙ h.same) (g ∙ h.kept))
 
-        module _ {r q i : ℕ} (z : w ≡ many.Took r q i) where
+        module _ {r q i : ℕ} (z : w ≡ came_with r q i) where
           -- it ends where its length says
           closes : r ≡ record_end s n
           closes = let y = objects_open (rw z at is_record) in record_closes site s h.bytes h.short entry j h.few (record_end s n) (n + 2) (omega arith) (omega (arith, next_high, h.inside)) y.2
@@ -126,12 +126,12 @@ module _ {s : List ℕ} {site : Site} {entry : ℕ} {a b u v : List ℕ} {end at
                 bytes = h.bytes;
                 inside = h.inside;
                 short = h.short;
-                going = going_step h.going (lt-ltb n end l) l y.0 y.1 y.2 y.3 (omega arith) (omega arith) (objects_small d z) y.4.at;
+                going = going_step h.going (lt-ltb n end l) l y.0 y.1 y.2 y.3 (omega arith) (omega arith) (objects_small (rw z at d)) y.4.at;
                 marks = put_put h.marks y.4;
-                few = objects_few d z;
+                few = objects_few (rw z at d);
                 low = omega (arith, h.low);
                 high = omega arith;
-                small = objects_small d z;
+                small = objects_small (rw z at d);
                 fit = rw e next_fit;
                 same = objects_same d ∙ h.same;
                 kept = objects_kept d ∙ h.kept;

@@ -11,17 +11,16 @@ use Rattle.elements.specs.declared.fault.Fault.{Fault}
 use Rattle.elements.specs.declared.fault.Fault.TheVariants.{FileDiffers, FileMissing, FileExtra}
 use Rattle.elements.specs.ChoiceLaws.{by_choose, by_less}
 use Rattle.elements.specs.Choice.{choose}
-use Rattle.reader.specs.declared.frame.Framed.{Framed}
-use Rattle.reader.specs.declared.frame.Framed.TheVariants as file
-use Rattle.reader.specs.declared.twelve.Followed.{Followed}
-use Rattle.reader.specs.declared.twelve.Followed.TheVariants.{Fine, Wrong}
 use Rattle.rules.specs.Reading.{Rec}
 use Rattle.rules.specs.Files.{File, FrameRead, framed, broken, files, two, frame_of, file_in, named_file, named_frame, frames, Name, names_of, equal, path_of, Check, wrong_at, follow}
 use Rattle.files.specs.Scan.{Lies, Holds, NextName, last, found, NameTold}
-use Rattle.reader.specs.Frame.{framed_as, Inner, Path}
+use Rattle.reader.specs.Frame.{framed_as, Inner, Path, Chain, Framed, fine_so, framed_at}
 use Rattle.reader.specs.Twelve.{Sound, followed_as, FollowTold}
 use Rattle.files.specs.LiesLaws.{lie_same}
 use Rattle.reader.proofs.FrameLaws.{chain_more, chain_end}
+use Rattle.elements.specs.Answer.{refused}
+use Rattle.elements.specs.declared.answer.Refusal.{Refusal}
+use Rattle.std.specs.Prelude.{Some, None, Err}
 
 -- a file is framed where its record is
 module _ (s : List ℕ) (at : ℕ) (f : File) where
@@ -99,38 +98,36 @@ record Named (b : List ℕ) (end : ℕ) (rs : List Rec) (j : ℕ) : Type 0 where
   six : 6 ≤ 2 + two b j
   after : Lies b (j + 2 + two b j) end left
 
-named : {b : List ℕ} {end : ℕ} {rs : List Rec} {j : ℕ} → NextName b end rs j → j < end → Named b end rs j
-named (last e _) h = absurd (omega arith)
-named (found n left e _ _ p k l) h = record { name = n; left = left; names = e; path = p; six = k; after = l }
+named : {b : List ℕ} {end : ℕ} {rs : List Rec} {j : ℕ} → NextName b end rs (Some j) → Named b end rs j
+named (found n left e _ _ p k l) = record { name = n; left = left; names = e; path = p; six = k; after = l }
 
-unnamed : {b : List ℕ} {end : ℕ} {rs : List Rec} {j : ℕ} → NextName b end rs j → end ≤ j → names_of rs ≡ []
-unnamed (last _ e) h = e
-unnamed (found _ _ _ l _ _ _ _) h = absurd (omega arith)
+unnamed : {b : List ℕ} {end : ℕ} {rs : List Rec} → NextName b end rs None → names_of rs ≡ []
+unnamed (last e) = e
 
--- the loop of `follow`: what is left of the names, from j on, and of the files, from n on, decides
-pub record Following (s : List ℕ) (at : ℕ) (b : List ℕ) (i end j n : ℕ) : Type 0 where
+-- the loop of `follow`: what is left of the names, from k on, and of the files, from n on, decides
+pub record Following (s : List ℕ) (at : ℕ) (b : List ℕ) (i end k n : ℕ) : Type 0 where
   pub all : List Rec
   pub lies : Lies b i end all
   pub fs : List File
   pub turns : ℕ
   pub are : frames s turns at ≡ files fs
   pub left : List Rec
-  pub next : NextName b end left j
+  pub now : Lies b k end left
   pub rest : List File
   pub more : ℕ
   pub chain : frames s more n ≡ files rest
   pub high : n ≤ length s
   pub same : follow s (names_of all) fs ≡ follow s (names_of left) rest
 
-pub following_none : {s : List ℕ} {at : ℕ} {b : List ℕ} {i end j : ℕ} → Holds b i end → Sound s at → at ≤ length s → NameTold b i end j → Following s at b i end j at
-following_none h d l t = record {
+pub following_none : {s : List ℕ} {at : ℕ} {b : List ℕ} {i end : ℕ} → Holds b i end → Sound s at → at ≤ length s → Following s at b i end i at
+following_none h d l = record {
   all = h.rs;
   lies = h.lies;
   fs = d.fs;
   turns = d.turns;
   are = d.are;
   left = h.rs;
-  next = t.is h.rs h.lies;
+  now = h.lies;
   rest = d.fs;
   more = d.turns;
   chain = d.are;
@@ -138,89 +135,88 @@ following_none h d l t = record {
   same = refl;
 }
 
-module _ {s : List ℕ} {at : ℕ} {b : List ℕ} {i end j n : ℕ} (w : Following s at b i end j n) where
+module _ {s : List ℕ} {at : ℕ} {b : List ℕ} {i end k n : ℕ} (w : Following s at b i end k n) where
   pub following_high : n ≤ length s
   following_high = w.high
 
+  pub following_holds : Holds b k end
+  following_holds = record { rs = w.left; lies = w.now }
+
   -- what is left tells the answer
-  told : (r : Followed) → follow s (names_of w.left) w.rest ≡ followed_as r → FollowTold s at b i end r
+  told : (r : Chain) → follow s (names_of w.left) w.rest ≡ followed_as r → FollowTold s at b i end r
   told r e = record { is = λ rs fs g l d. rw (lie_same l w.lies, chain_same s fs w.fs g w.turns at d w.are) (w.same ∙ e) }
 
-  module _ (h : j < end) where
-    pub name_word : j + 2 ≤ length b
-    name_word = let x = named w.next h in omega (arith, x.after.low, x.after.high)
+  module _ {j : ℕ} (t : NameTold b k end (Some j)) where
+    name : Named b end w.left j
+    name = named (t.is w.left w.now)
 
-    module _ (m : ℕ) (k : m ≡ two b j) where
+    pub name_word : j + 2 ≤ length b
+    name_word = omega (arith, name.after.low, name.after.high)
+
+    module _ (m : ℕ) (u : m ≡ two b j) where
       pub name_low : j + 6 ≤ j + 2 + m
-      name_low = let x = named w.next h in omega (arith, x.six)
+      name_low = omega (arith, name.six)
 
       pub name_high : j + 2 + m ≤ length b
-      name_high = let x = named w.next h in omega (arith, x.after.low, x.after.high)
+      name_high = omega (arith, name.after.low, name.after.high)
 
-      pub name_holds : Holds b (j + 2 + m) end
-      name_holds = let x = named w.next h in record { rs = x.left; lies = rw k x.after }
-
-    pub follow_missing : length s ≤ n → FollowTold s at b i end (Wrong FileMissing (length s))
+    pub follow_missing : length s ≤ n → FollowTold s at b i end (refused FileMissing (length s))
     unfolding follow
-    follow_missing l = let x = named w.next h in told (Wrong FileMissing (length s)) (rw (x.names, chain_end s w.more n w.rest l w.chain) refl)
+    follow_missing l = told (refused FileMissing (length s)) (ap (follow s (names_of w.left)) (chain_end s w.more n w.rest l w.chain) ∙ rw name.names refl)
 
     module _ (l : n < length s) (r : Framed) (q : named_frame s n ≡ framed_as n r) where
-      pub follow_broken : {x : Fault} {p : ℕ} → r ≡ file.Broken x p → FollowTold s at b i end (Wrong x p)
-      follow_broken {x} {p} z =
+      pub follow_broken : {e : Refusal} → r ≡ Err e → FollowTold s at b i end (Err e)
+      follow_broken {e} z =
           let c = chain_more s w.more n w.rest l w.chain in
-          let d : broken x p ≡ framed c.0 = sym (q ∙ rw z refl) ∙ c.4 in
+          let d : broken e.0 e.1 ≡ framed c.0 = sym (q ∙ rw z refl) ∙ c.4 in
           let y : ◌≡◌ {A = ℕ} 0 1 = cc in
           absurd (omega arith)
 
-      module _ {y x a e : ℕ} (z : r ≡ file.File y x a e) (m : ℕ) (k : m ≡ two b j) (t : Bool) (v : t ≡ equal (slice (j + 6) (j + 2 + m) b) (slice x a s)) where
+      module _ {y x a e : ℕ} (z : r ≡ framed_at y x a e) (m : ℕ) (u : m ≡ two b j) (p : Bool) (v : p ≡ equal (slice (j + 6) (j + 2 + m) b) (slice x a s)) where
         -- the file that is framed here is compared with the name
-        turn : (x : Named b end w.left j) → (rest : List File) × (g : ℕ) × (frames s g e ≡ files rest) × (follow s (names_of w.left) w.rest ≡ choose t (λ _. follow s (names_of x.left) rest) (λ _. wrong_at FileDiffers n))
-        turn o =
+        turn : (rest : List File) × (g : ℕ) × (frames s g e ≡ files rest) × (follow s (names_of w.left) w.rest ≡ choose p (λ _. follow s (names_of name.left) rest) (λ _. wrong_at FileDiffers n))
+        turn =
             let c = chain_more s w.more n w.rest l w.chain in
             let f : File = record { place = n; kind = y; named = x; start = a; stop = e } in
             let d : framed c.0 ≡ framed f = sym c.4 ∙ q ∙ rw z refl in
             let g : c.0 ≡ f = cc in
-            let u : w.rest ≡ f ∷ c.1 = rw (← g) c.3 in
-            (c.1, c.2, rw g at c.5, follow_one s o.name f t o.names u (rw (o.path, ← k) v))
+            let o : w.rest ≡ f ∷ c.1 = rw (← g) c.3 in
+            (c.1, c.2, rw g at c.5, follow_one s name.name f p name.names o (rw (name.path, ← u) v))
 
-        pub follow_next : {j' : ℕ} → Inner s n r → t ≡ true → NameTold b (j + 2 + m) end j' → Following s at b i end j' e
-        follow_next {j'} p g d =
-            let o = named w.next h in
-            let c = turn o in
-            let f = p.is y x a e z in
+        pub follow_next : Inner s n r → p ≡ true → Following s at b i end (j + 2 + m) e
+        follow_next q' g =
+            let c = turn in
+            let f = q'.is y x a e z in
             record {
               all = w.all;
               lies = w.lies;
               fs = w.fs;
               turns = w.turns;
               are = w.are;
-              left = o.left;
-              next = d.is o.left (rw k o.after);
+              left = name.left;
+              now = rw u name.after;
               rest = c.0;
               more = c.1;
               chain = c.2;
               high = omega arith;
-              same = w.same ∙ c.3 ∙ chosen t (λ _. follow s (names_of o.left) c.0) (λ _. wrong_at FileDiffers n) g;
+              same = w.same ∙ c.3 ∙ chosen p (λ _. follow s (names_of name.left) c.0) (λ _. wrong_at FileDiffers n) g;
             }
 
-        pub follow_differs : t ≡ false → FollowTold s at b i end (Wrong FileDiffers n)
-        follow_differs g =
-            let o = named w.next h in
-            let c = turn o in
-            told (Wrong FileDiffers n) (c.3 ∙ unchosen t (λ _. follow s (names_of o.left) c.0) (λ _. wrong_at FileDiffers n) g)
+        pub follow_differs : p ≡ false → FollowTold s at b i end (refused FileDiffers n)
+        follow_differs g = told (refused FileDiffers n) (turn.3 ∙ unchosen p (λ _. follow s (names_of name.left) turn.0) (λ _. wrong_at FileDiffers n) g)
 
-  module _ (h : end ≤ j) where
-    pub follow_extra : n < length s → FollowTold s at b i end (Wrong FileExtra n)
+  module _ (t : NameTold b k end None) where
+    pub follow_extra : n < length s → FollowTold s at b i end (refused FileExtra n)
     unfolding follow
     follow_extra l =
         let c = chain_more s w.more n w.rest l w.chain in
-        told (Wrong FileExtra n) (rw (unnamed w.next h, c.3, place_there s n c.0 c.4) refl)
+        told (refused FileExtra n) (rw (unnamed (t.is w.left w.now), c.3, place_there s n c.0 c.4) refl)
 
-    pub follow_fine : length s ≤ n → FollowTold s at b i end Fine
+    pub follow_fine : length s ≤ n → FollowTold s at b i end fine_so
     unfolding follow
-    follow_fine l = told Fine (rw (unnamed w.next h, chain_end s w.more n w.rest l w.chain) refl)
+    follow_fine l = told fine_so (ap (follow s (names_of w.left)) (chain_end s w.more n w.rest l w.chain) ∙ rw (unnamed (t.is w.left w.now)) refl)
 
-module _ {s : List ℕ} {n : ℕ} {r : Framed} (d : Path s n r) {y x a e : ℕ} (z : r ≡ file.File y x a e) where
+module _ {s : List ℕ} {n : ℕ} {r : Framed} (d : Path s n r) {y x a e : ℕ} (z : r ≡ framed_at y x a e) where
   -- a file's path lies before it
   pub path_low : x ≤ a
   path_low = let b = d.is y x a e z in omega arith

@@ -1,25 +1,24 @@
 -- What the code makes of a whole dump, stage by stage.
-use Rattle.std.specs.Prelude.{ℕ, ◌+◌, ◌*◌, ◌≤◌, ◌≡◌, List, [], ◌++◌, length, take}
+use Rattle.std.specs.Prelude.{ℕ, ◌+◌, ◌*◌, ◌≤◌, ◌≡◌, List, [], ◌++◌, length, take, Option, Result, Ok}
 use Rattle.elements.specs.declared.fault.Fault.{Fault}
 use Rattle.elements.specs.Lists.{Bytes}
 use Rattle.elements.specs.Put.{Put}
-use Rattle.rules.specs.declared.outcome.Outcome.{Outcome}
-use Rattle.rules.specs.declared.outcome.Outcome.TheVariants.{Accepted, Refused}
-use Rattle.reader.specs.declared.dump.Heads.{Heads}
-use Rattle.reader.specs.declared.dump.Heads.TheVariants as heads
-use Rattle.objects.specs.declared.part.Part.{Part}
-use Rattle.objects.specs.Did.{Did}
+use Rattle.objects.specs.Did.{Did, Part}
 use Rattle.rules.specs.Reading.{Rec, Res}
 use Rattle.rules.specs.Files.{File, files, frames, Answer, accepted, refused, on_res, od, names_of, paths, dir, and_also, read_files, read_parts, read_from, read_dump}
 use Rattle.rules.specs.Book.{encode}
 use Rattle.rules.specs.LookLaws.{Laid}
 use Rattle.files.specs.Filing.{PathsTold}
 use Rattle.files.specs.Scan.{Lies}
+use Rattle.elements.specs.Answer.{Outcome}
+use Rattle.elements.specs.Answer as code
+use Rattle.elements.specs.declared.answer.Refusal.{Refusal}
+use Rattle.reader.specs.declared.dump.Heads.{Heads}
 
 -- the code's answer is the definition's: the records behind those that were laid out before, `old`, are laid out from o on in the lent book, which was a and is b
 pub data Reads (old : List Rec) (a b : List ℕ) (o : ℕ) : Answer → Outcome → Type 0 where
-  reads : (rs : List Rec) {n : ℕ} → Put a b o n (encode rs) → n ≤ length a → Reads old a b o (accepted (old ++ rs)) (Accepted n)
-  falls : {f : Fault} {p : ℕ} → length b ≡ length a → Reads old a b o (refused f p) (Refused f p)
+  reads : (rs : List Rec) {n : ℕ} → Put a b o n (encode rs) → n ≤ length a → Reads old a b o (accepted (old ++ rs)) (Ok n)
+  falls : {f : Fault} {p : ℕ} → length b ≡ length a → Reads old a b o (refused f p) (code.refused f p)
 
 -- EF.OD lies from `start` to `stop`, its file behind a record's start; a book of the dump has room in a
 pub record Framing (s : List ℕ) (start stop : ℕ) (a : List ℕ) : Type 0 where
@@ -48,7 +47,7 @@ pub record Opened (s : List ℕ) (stop : ℕ) (a : List ℕ) (i end : ℕ) (u : 
   pub is : Opening s stop a i end u k cs ms
 
 -- 12, the files in turn, 13
-pub record FilesRead (s : List ℕ) (stop : ℕ) (a b : List ℕ) (i end : ℕ) (u : List ℕ) (k again : ℕ) (r : Outcome) : Type 0 where
+pub record FilesRead (s : List ℕ) (stop : ℕ) (a b : List ℕ) (i end : ℕ) (u : List ℕ) (k : ℕ) (again : Option ℕ) (r : Outcome) : Type 0 where
   pub is : (o : File) (fs : List File) (bs cs : List Rec) (ms : List ℕ) → o.stop ≡ stop → frames s (length s) stop ≡ files fs → Opening s stop a i end u k cs ms → PathsTold s stop o.start (paths (names_of cs)) again →
       Reads (bs ++ cs) a b end (read_files s o fs bs cs ms) r
 
@@ -80,9 +79,9 @@ pub record HeadsAre (s : List ℕ) (at from to start stop : ℕ) : Type 0 where
   pub high : stop ≤ length s
 
 -- these, or a frame is broken
-pub data HeadsTold (s : List ℕ) (at : ℕ) : Heads → Type 0 where
-  unsound : {f : Fault} {p : ℕ} → ((k : Answer → Answer) → read_from s at k ≡ refused f p) → HeadsTold s at (heads.Broken f p)
-  sound : {from to start stop : ℕ} → HeadsAre s at from to start stop → HeadsTold s at (heads.Are from to start stop)
+pub data HeadsTold (s : List ℕ) (at : ℕ) : Result Heads Refusal → Type 0 where
+  unsound : {f : Fault} {p : ℕ} → ((k : Answer → Answer) → read_from s at k ≡ refused f p) → HeadsTold s at (code.refused f p)
+  sound : {h : Heads} → HeadsAre s at h.info.start h.info.stop h.main.start h.main.stop → HeadsTold s at (Ok h)
 
 -- what was read into some lent bytes
 pub record Judged (at end : ℕ) (w : Res) (r : Part) : Type 0 where

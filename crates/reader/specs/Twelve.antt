@@ -1,10 +1,9 @@
 -- 12, second half: what the code tells of files that do not follow EF.OD.
-use Rattle.std.specs.Prelude.{ℕ, ◌≡◌, List}
-use Rattle.reader.specs.declared.twelve.Followed.{Followed}
-use Rattle.reader.specs.declared.twelve.Followed.TheVariants.{Fine, Wrong}
+use Rattle.std.specs.Prelude.{ℕ, ◌≡◌, List, Ok, Err}
 use Rattle.rules.specs.Reading.{Rec}
 use Rattle.rules.specs.Files.{File, files, frames, names_of, Check, fine, wrong_at, follow}
 use Rattle.files.specs.Scan.{Lies}
+use Rattle.reader.specs.Frame.{Chain}
 
 -- the files from `at` on are framed well
 pub record Sound (s : List ℕ) (at : ℕ) : Type 0 where
@@ -12,9 +11,9 @@ pub record Sound (s : List ℕ) (at : ℕ) : Type 0 where
   pub turns : ℕ
   pub are : frames s turns at ≡ files fs
 
-abbrev pub followed_as : Followed → Check
-followed_as Fine = fine
-followed_as (Wrong f p) = wrong_at f p
+abbrev pub followed_as : Chain → Check
+followed_as (Ok u) = fine
+followed_as (Err r) = wrong_at r.0 r.1
 
-pub record FollowTold (s : List ℕ) (at : ℕ) (b : List ℕ) (i end : ℕ) (r : Followed) : Type 0 where
+pub record FollowTold (s : List ℕ) (at : ℕ) (b : List ℕ) (i end : ℕ) (r : Chain) : Type 0 where
   pub is : (rs : List Rec) (fs : List File) (g : ℕ) → Lies b i end rs → frames s g at ≡ files fs → follow s (names_of rs) fs ≡ followed_as r

@@ -5,8 +5,9 @@ ghost use Rattle.cards.specs.Fits.{Fit, Sorted};
 ghost use Rattle.files.specs.Filing.{DidObjects};
 ghost use Rattle.reader.specs.Linear.{records_in, by_kind};
 
+use elements::Refusal;
 use files::{Holder, held};
-use objects::{Many, put_bare};
+use objects::{Cursor, put_bare};
 use rules::{Site, word};
 
 // The records of a record file in turn, after k objects.
@@ -16,20 +17,23 @@ fn records(
     entry: u8,
     k: usize,
     end: usize,
-    at: usize,
+    from: Cursor,
     out: &mut [u8],
-    o: usize,
     marks: &mut [u32],
-) -> Many
-    requires { (k ≤ 128) × Fit s.now end at × InContainer s.now end at o }
-    ensures { DidObjects out.old out.new marks.old marks.new o at end k (records_in s.now site entry k end at) result }
+) -> Result<(Cursor, usize), Refusal>
+    requires { (k ≤ 128) × Fit s.now end from.dump × InContainer s.now end from.dump from.book }
+    ensures { DidObjects out.old out.new marks.old marks.new from.book from.dump end k (records_in s.now site entry k end from.dump) result }
 {
     let mut j = k;
-    let mut n = at;
-    let mut p = o;
-    while n < end {
-        let e = n + 2 + word(s, n);
-        match held(
+    let mut at = from;
+    while at.dump < end {
+        let n = at.dump + 2;
+        let e = n + word(s, at.dump);
+        let inside = Cursor {
+            dump: n,
+            book: at.book,
+        };
+        let (next, c) = held(
             s,
             Holder::Record,
             0x011a,
@@ -37,22 +41,14 @@ fn records(
             entry,
             j,
             e,
-            n + 2,
+            inside,
             out,
-            p,
             marks,
-        ) {
-            Many::Fails(f, x) => {
-                return Many::Fails(f, x);
-            }
-            Many::Took(m, t, c) => {
-                j = c;
-                n = m;
-                p = t;
-            }
-        }
+        )?;
+        j = c;
+        at = next;
     }
-    Many::Took(n, p, j)
+    Ok((at, j))
 }
 
 // A record file, the nth: its records behind its 0119.
@@ -62,20 +58,31 @@ fn linear(
     entry: u8,
     k: usize,
     end: usize,
-    at: usize,
+    at: Cursor,
     out: &mut [u8],
-    o: usize,
     marks: &mut [u32],
-) -> Many
-    requires { (k ≤ 128) × Fit s.now end at × (o + 4 ≤ 8 * at + 131072) × InContainer s.now end at o }
-    ensures { DidObjects out.old out.new marks.old marks.new o at end k (linear s.now n entry k end at) result }
+) -> Result<(Cursor, usize), Refusal>
+    requires { (k ≤ 128) × Fit s.now end at.dump × (at.book + 4 ≤ 8 * at.dump + 131072) × InContainer s.now end at.dump at.book }
+    ensures { DidObjects out.old out.new marks.old marks.new at.book at.dump end k (linear s.now n entry k end at.dump) result }
 {
-    let q = put_bare(out, o, 0x0119);
+    let book = put_bare(out, at.book, 0x0119);
     let site = Site {
         number: n,
-        start: at,
+        start: at.dump,
     };
-    records(s, site, entry, k, end, at, out, q, marks)
+    records(
+        s,
+        site,
+        entry,
+        k,
+        end,
+        Cursor {
+            dump: at.dump,
+            book,
+        },
+        out,
+        marks,
+    )
 }
 
 // The nth file, of this kind, after k objects: transparent, or of records.
@@ -86,32 +93,19 @@ pub fn file_of(
     entry: u8,
     k: usize,
     end: usize,
-    at: usize,
+    at: Cursor,
     out: &mut [u8],
-    o: usize,
     marks: &mut [u32],
-) -> Many
-    requires { (k ≤ 128) × Sorted s.now kind end at × (o + 4 ≤ 8 * at + 131072) × InContainer s.now end at o }
-    ensures { DidObjects out.old out.new marks.old marks.new o at end k (by_kind s.now kind n entry k end at) result }
+) -> Result<(Cursor, usize), Refusal>
+    requires { (k ≤ 128) × Sorted s.now kind end at.dump × (at.book + 4 ≤ 8 * at.dump + 131072) × InContainer s.now end at.dump at.book }
+    ensures { DidObjects out.old out.new marks.old marks.new at.book at.dump end k (by_kind s.now kind n entry k end at.dump) result }
 {
     if kind == 3 {
         let site = Site {
             number: n,
-            start: at,
+            start: at.dump,
         };
-        return held(
-            s,
-            Holder::File,
-            0x0118,
-            site,
-            entry,
-            k,
-            end,
-            at,
-            out,
-            o,
-            marks,
-        );
+        return held(s, Holder::File, 0x0118, site, entry, k, end, at, out, marks);
     }
-    linear(s, n, entry, k, end, at, out, o, marks)
+    linear(s, n, entry, k, end, at, out, marks)
 }

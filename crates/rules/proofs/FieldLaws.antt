@@ -1,5 +1,5 @@
 -- The components of a table are read as they are, and only so.
-use Rattle.std.specs.Prelude.{ℕ, ◌^◌, ◌≤◌, ◌<◌, Bool, true, false, ◌&&◌, ◌≡◌, ℤ, pos, negsuc, nat_abs, length, T}
+use Rattle.std.specs.Prelude.{ℕ, ◌^◌, ◌≤◌, ◌<◌, Bool, true, false, ◌&&◌, ◌≡◌, ℤ, pos, negsuc, nat_abs, length, T, Err, Ok}
 use mathlib.Core.List.{List, [], ◌∷◌}
 use Rattle.std.proofs.Math.Path.{refl}
 use Rattle.std.proofs.Common.{sym, ap, ◌∙◌, ne_eqb}
@@ -9,8 +9,6 @@ use Rattle.std.proofs.lemmas.Bool.{eqb-false}
 use Rattle.elements.specs.declared.fault.Fault.{Fault}
 use Rattle.elements.specs.declared.answer.Form.{Form}
 use Rattle.elements.specs.declared.answer.Form.TheVariants as form
-use Rattle.elements.specs.declared.answer.Value.{Value}
-use Rattle.elements.specs.declared.answer.Value.TheVariants.{Of, Wrong}
 use Rattle.elements.specs.ChoiceLaws.{by_choose}
 use Rattle.elements.specs.Lists.{Bytes}
 use Rattle.elements.specs.Put.{le32}
@@ -31,6 +29,7 @@ use Rattle.rules.specs.Grammar.{Site, pay_of, NotDefault, Within, Fine, field, f
 use Rattle.rules.specs.BoundLaws.{bounds, within_bounds, signed_is, bounds_fit, within_fits, abs_small, signed_small}
 use Rattle.rules.specs.Faces.{row_tags, rows_clear}
 use Rattle.rules.specs.GrammarLaws.{close, Reads, refuses, Plain, PlainBody, clear, seq, none_law, low_tag, low_tag_lem, slot_look, whole_reads, whole_goes, component_law}
+use Rattle.elements.specs.Answer.{Value}
 
 -- what contents come to
 data Judged (f : Form) (r : Row) (c : List ℕ) : Val → Type 0 where
@@ -108,8 +107,8 @@ module _ (site : Site) (s : List ℕ) (bytes : Bytes s) (small : length s ≤ 32
   row_sound r m at a e i h l = go (value r.form (slice a e s)) refl
     where
       go : (v : Value) → value r.form (slice a e s) ≡ v → Reads site s (field r) (λ _. 0) 0 0 close e a (valued r at e (judged r (slice a e s) v))
-      go (Wrong f) q = refuses at (omega arith, value_fault r.form (slice a e s) q)
-      go (Of n x) q = valued_reads r at a e (omega arith) h (judges r.form r (slice a e s) n x m (value_sound r.form (slice a e s) (bytes_slice a e s bytes) q))
+      go (Err f) q = refuses at (omega arith, value_fault r.form (slice a e s) q)
+      go (Ok x1) q = valued_reads r at a e (omega arith) h (judges r.form r (slice a e s) x1.0 x1.1 m (value_sound r.form (slice a e s) (bytes_slice a e s bytes) q))
 
   row_complete : (r : Row) → T (bounds_fit r) → (at a e : ℕ) → a ≤ e → (v : Worth r.form) → Fine r.form r v → slice a e s ≡ contents_of r.form v → row_body s r at a e ≡ took (rec r.kind (pay_of r.form v) ∷ []) [] e
   unfolding row_body

@@ -1,13 +1,11 @@
 -- What holds of a layout's faces together: it is read as it is and only so, rendering its records gives its bytes, and what is rendered of any records is bytes. One lemma for each way to put layouts together.
-use Rattle.std.specs.Prelude.{ℕ, ◌+◌, ◌-◌, ◌≤◌, List, [], ◌∷◌, Bool, true, false, ◌&&◌, not, ◌≡◌, refl, length, ltb, leb, eqb, T}
+use Rattle.std.specs.Prelude.{ℕ, ◌+◌, ◌-◌, ◌≤◌, List, [], ◌∷◌, Bool, true, false, ◌&&◌, not, ◌≡◌, refl, length, ltb, leb, eqb, T, Err, Ok}
 use Rattle.std.proofs.Common.{append-nil, ◌∙◌, le_refl, arith, T_not, eqb-true, eq-eqb}
 use Rattle.std.proofs.Math.Option.{Option, none, some}
 use Rattle.std.proofs.Math.Seq.{slice}
 use Rattle.std.proofs.lemmas.Bool.{not-true}
 use Rattle.elements.specs.declared.fault.Fault.{Fault}
 use Rattle.elements.specs.declared.fault.Fault.TheVariants.{NotDue}
-use Rattle.elements.specs.declared.answer.Run.{Run}
-use Rattle.elements.specs.declared.answer.Run.TheVariants.{Ends, Refused}
 use Rattle.elements.specs.Choice.{choose}
 use Rattle.elements.specs.ChoiceLaws.{both_true}
 use Rattle.elements.specs.Lists.{Bytes}
@@ -36,6 +34,7 @@ use Rattle.rules.proofs.FieldLaws.{fields_law}
 use Rattle.rules.specs.ItemLaws.{narrow, or_law, otherwise_law, sealed_law, list_law, behind_body, lift_law, recount, total_none}
 use Rattle.rules.specs.FillLaws.{filed_law, single_law, alone_law}
 use Rattle.rules.specs.Bytewise.{Outs, next_b, within_b, when_b, either_b, from_b, plain_b, keep_b, rows_b, all_b, fill_b}
+use Rattle.elements.specs.Answer.{Run}
 
 -- what holds of a layout's faces together
 pub record Lawful (part : Part) (read : List ℕ → ℕ → Reader) (render : Renderer) (kinds : Look) (tags : exact.Look) : Type 0 where
@@ -203,8 +202,8 @@ module _ (kind : ℕ) where
   }
     where
       go : (end at : ℕ) → at ≤ end → end ≤ length s → (r : Run) → sealed_run 16 s [] at end ≡ r → exact.Reads site s (grammar.raw (rec kind) (SealedRun 16 [])) (λ _. 0) 0 0 close end at (keep (rec kind (slice at end s) ∷ []) end r)
-      go end at h l (Refused f p) q = exact.refuses p (omega (arith, (sealed_refuses 16 s [] at end h q).1), sealed_fault 16 s [] at end q)
-      go end at h l (Ends i) q = exact.whole_reads (grammar.raw (rec kind) (SealedRun 16 [])) (rec kind (slice at end s) ∷ []) (slice at end s) (run_sound s b 16 [] at end h l q) h refl refl
+      go end at h l (Err r) q = exact.refuses r.1 (omega (arith, (sealed_refuses 16 s [] at end h q).1), sealed_fault 16 s [] at end q)
+      go end at h l (Ok i) q = exact.whole_reads (grammar.raw (rec kind) (SealedRun 16 [])) (rec kind (slice at end s) ∷ []) (slice at end s) (run_sound s b 16 [] at end h l q) h refl refl
 
       begins : {l : ℕ} (c : List ℕ) → SealedRun l [] c → exact.Starts any_tag true c
       begins c (grammar.over e) = exact.without tt e

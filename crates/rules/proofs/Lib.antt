@@ -1,5 +1,4 @@
 pub mod TagLaws
-pub mod SameLaws
 pub mod KeptLaws
 pub mod FieldLaws
 pub mod ConditionLaws

@@ -1,13 +1,11 @@
 -- "68 (default written out)", the last of "61 to 68" at one element: where a value is in its form, and is the default.
-use Rattle.std.specs.Prelude.{ℕ, ◌≡◌, refl, Bool, true, false, List}
+use Rattle.std.specs.Prelude.{ℕ, ◌≡◌, refl, Bool, true, false, List, Err, Ok}
 use Rattle.std.proofs.Common.{◌∙◌, arith, eqb-true}
 use Rattle.std.proofs.Math.Seq.{slice}
 use Rattle.elements.specs.declared.fault.Fault.{Fault}
 use Rattle.elements.specs.declared.fault.Fault.TheVariants.{DefaultWritten}
 use Rattle.elements.specs.declared.answer.Form.{Form}
 use Rattle.elements.specs.declared.answer.Form.TheVariants as form
-use Rattle.elements.specs.declared.answer.Value.{Value}
-use Rattle.elements.specs.declared.answer.Value.TheVariants.{Of, Wrong}
 use Rattle.elements.specs.ChoiceLaws.{by_choose}
 use Rattle.elements.specs.Values.{value}
 use Rattle.elements.specs.WrongLaws.{Faulty, own_fault, boolean_61, integer_62, bits_63, bits_64, bits_7, text_65, time_66, null_67}
@@ -16,12 +14,13 @@ use Rattle.rules.specs.declared.table.Need.TheVariants.{Required, Optional, Defa
 use Rattle.rules.specs.declared.table.Row.{Row}
 use Rattle.rules.specs.Reading.{fails}
 use Rattle.rules.specs.Parts.{Val, good, wrong, is_default, in_bounds, payload, judged, valued, row_body}
+use Rattle.elements.specs.Answer.{Value, of}
 
 -- contents c of a row say its default
 pub record Written (r : Row) (c : List ℕ) : Type 0 where
   pub default : ℕ
   pub stated : r.need ≡ Default default
-  pub says : value r.form c ≡ Of false default
+  pub says : value r.form c ≡ of false default
 
 -- a number is the default of its row
 the_default : (d : Need) (n : Bool) (m : ℕ) → is_default d n m ≡ true → (n ≡ false) × (d ≡ Default m)
@@ -68,12 +67,12 @@ only_default s r at a e p = go (value r.form (slice a e s)) refl
     c = slice a e s
 
     go : (v : Value) → value r.form c ≡ v → valued r at e (judged r c v) ≡ fails DefaultWritten p → (p ≡ at) × Written r c
-    go (Wrong x) q h = absurd (omega (arith, not_of_form (own_fault r.form c q) cc))
-    go (Of n m) q h = by_val (payload r.form r c n m) refl h
+    go (Err x) q h = absurd (omega (arith, not_of_form (own_fault r.form c q) cc))
+    go (Ok y) q h = by_val (payload r.form r c y.0 y.1) refl h
       where
-        by_val : (v : Val) → payload r.form r c n m ≡ v → valued r at e v ≡ fails DefaultWritten p → (p ≡ at) × Written r c
+        by_val : (v : Val) → payload r.form r c y.0 y.1 ≡ v → valued r at e v ≡ fails DefaultWritten p → (p ≡ at) × Written r c
         by_val (good b) i j = absurd (let z : ◌≡◌ {A = ℕ} 0 1 = cc in omega arith)
         by_val (wrong x) i j =
-            let w : payload r.form r c n m ≡ wrong DefaultWritten = cc in
-            let d = the_default r.need n m (of_value r c n m r.form w) in
-            (cc, record { default = m; stated = d.1; says = q ∙ rw d.0 refl })
+            let w : payload r.form r c y.0 y.1 ≡ wrong DefaultWritten = cc in
+            let d = the_default r.need y.0 y.1 (of_value r c y.0 y.1 r.form w) in
+            (cc, record { default = y.1; stated = d.1; says = q ∙ rw d.0 refl })

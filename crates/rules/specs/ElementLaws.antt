@@ -1,10 +1,8 @@
 -- An element as data, and the header that is read of it.
-use Rattle.std.specs.Prelude.{ℕ, suc, ◌+◌, ◌-◌, ◌*◌, ◌/◌, ◌%◌, ◌≤◌, ◌<◌, List, [], ◌∷◌, ◌++◌, Bool, true, false, not, ◌&&◌, ◌≡◌, refl, length, take, drop, ltb, eqb, T}
+use Rattle.std.specs.Prelude.{ℕ, suc, ◌+◌, ◌-◌, ◌*◌, ◌/◌, ◌%◌, ◌≤◌, ◌<◌, List, [], ◌∷◌, ◌++◌, Bool, true, false, not, ◌&&◌, ◌≡◌, refl, length, take, drop, ltb, eqb, T, Ok}
 use Rattle.std.proofs.Common.{append_assoc, sym, ap, ◌∙◌, arith, length-append, take_at, drop_at, ltb-true, lt-ltb, le-ltb}
 use Rattle.std.proofs.Math.Seq.{slice, slice_empty, length-slice}
 use Rattle.std.proofs.lemmas.Bool.{eqb-false}
-use Rattle.elements.specs.declared.answer.Head.TheVariants.{At}
-use Rattle.elements.specs.declared.answer.Run.TheVariants.{Ends}
 use Rattle.elements.specs.Choice.{pick}
 use Rattle.elements.specs.ChoiceLaws.{by_pick, by_less}
 use Rattle.elements.specs.Lists.{Bytes, join, Begins, begins}
@@ -16,6 +14,7 @@ use Rattle.elements.specs.HeaderLaws.{header_in, header_sound, header_complete}
 use Rattle.elements.specs.Sealed.{sealed_run}
 use Rattle.elements.specs.SealedLaws.{sealed_sound, sealed_complete}
 use Rattle.rules.specs.Grammar.{Element, low, element_bytes, first_of, IsElement, SealedRun, over, shallow, deep}
+use Rattle.elements.specs.Answer.{found}
 
 -- a part that is known, and what is left of its container
 pub record Parted (s : List ℕ) (at end : ℕ) (p w : List ℕ) : Type 0 where
@@ -53,7 +52,7 @@ tag_is x = by_tag (ltb x.number 31) refl
 
 -- where the element x stands
 pub record Stands (s : List ℕ) (at end : ℕ) (x : Element) (a e : ℕ) : Type 0 where
-  pub is : header s at end ≡ At (first_of x) a e
+  pub is : header s at end ≡ found (first_of x) a e
   pub after : at + 2 ≤ a
   pub order : a ≤ e
   pub inside : e ≤ end
@@ -67,7 +66,7 @@ pub record Headed (s : List ℕ) (at end t a e : ℕ) : Type 0 where
   pub stands : Stands s at end x a e
   pub split : slice at end s ≡ element_bytes x ++ slice e end s
 
-pub head_sound : (s : List ℕ) → Bytes s → (at end : ℕ) {t a e : ℕ} → end ≤ length s → header s at end ≡ At t a e → Headed s at end t a e
+pub head_sound : (s : List ℕ) → Bytes s → (at end : ℕ) {t a e : ℕ} → end ≤ length s → header s at end ≡ found t a e → Headed s at end t a e
 unfolding element_bytes
 head_sound s bytes at end {t} {a} {e} l q =
     let d : Der s at end t a e = header_sound s at end bytes l q in
@@ -121,7 +120,7 @@ head_complete s small at end x w h l i q =
       first = sym v.first;
       bytes = rw m f.this;
     } in
-    let r : header s at end ≡ At (first_of x) a e = header_complete s at end l d in
+    let r : header s at end ≡ found (first_of x) a e = header_complete s at end l d in
     let y : (at + 2 ≤ a) × (a ≤ e) × (e ≤ end) = header_in s at end r in
     record {
       a = a;
@@ -152,10 +151,10 @@ run_nested s small (deep x w i m c j n z) at end h k q =
     let g : v.e ≤ length s = omega (arith, v.stands.inside) in
     encodings.deep v.der m c (run_nested s small j v.a v.e v.stands.order g v.stands.within) (run_nested s small n v.e end v.stands.inside k v.left)
 
-pub run_sound : (s : List ℕ) → Bytes s → (l : ℕ) (out : List ℕ) (at end : ℕ) {i : ℕ} → at ≤ end → end ≤ length s → sealed_run l s out at end ≡ Ends i → SealedRun l out (slice at end s)
+pub run_sound : (s : List ℕ) → Bytes s → (l : ℕ) (out : List ℕ) (at end : ℕ) {i : ℕ} → at ≤ end → end ≤ length s → sealed_run l s out at end ≡ Ok i → SealedRun l out (slice at end s)
 run_sound s bytes l out at end h k q = nested_run s bytes k (sealed_sound l s out at end bytes h k q)
 
-pub run_complete : (s : List ℕ) → length s ≤ 32768 → (l : ℕ) (out : List ℕ) (at end : ℕ) → at ≤ end → end ≤ length s → SealedRun l out (slice at end s) → sealed_run l s out at end ≡ Ends end
+pub run_complete : (s : List ℕ) → length s ≤ 32768 → (l : ℕ) (out : List ℕ) (at end : ℕ) → at ≤ end → end ≤ length s → SealedRun l out (slice at end s) → sealed_run l s out at end ≡ Ok end
 run_complete s small l out at end h k r = sealed_complete k (run_nested s small r at end h k refl)
 
 -- a tag of one byte

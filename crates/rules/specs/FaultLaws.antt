@@ -1,13 +1,8 @@
 -- What a refusal of reading tells; and that the faults of elements are such.
-use Rattle.std.specs.Prelude.{ℕ, zero, suc, ◌+◌, ◌-◌, ◌≤◌, List, [], ◌∷◌, Bool, not, ◌≡◌, length, get_or, ltb, leb, T}
+use Rattle.std.specs.Prelude.{ℕ, zero, suc, ◌+◌, ◌-◌, ◌≤◌, List, [], ◌∷◌, Bool, not, ◌≡◌, length, get_or, ltb, leb, T, Err, Ok}
 use Rattle.std.proofs.Common.{subst}
 use Rattle.elements.specs.declared.fault.Fault.{Fault}
 use Rattle.elements.specs.declared.answer.Form.{Form}
-use Rattle.elements.specs.declared.answer.Head.{Head}
-use Rattle.elements.specs.declared.answer.Head.TheVariants.{At, No}
-use Rattle.elements.specs.declared.answer.Run.{Run}
-use Rattle.elements.specs.declared.answer.Run.TheVariants.{Ends, Refused}
-use Rattle.elements.specs.declared.answer.Value.TheVariants.{Wrong}
 use Rattle.elements.specs.Faults.{number_of}
 use Rattle.elements.specs.Choice.{pick}
 use Rattle.elements.specs.ChoiceLaws.{by_pick, by_choose}
@@ -16,6 +11,7 @@ use Rattle.elements.specs.Loop.{Turn, next, done, loop}
 use Rattle.elements.specs.Sealed.{among, constructed, onward, sealed_one, sealed_run}
 use Rattle.elements.specs.Values.{value}
 use Rattle.elements.specs.WrongLaws.{Faulty, own_fault, boolean_61, integer_62, bits_63, bits_64, bits_7, text_65, time_66, null_67}
+use Rattle.elements.specs.Answer.{Head, Run, found, refused}
 
 -- a fault of reading: its number is none of the services' own, 14, 15 and 16
 abbrev pub of_reading : Fault → Bool
@@ -27,8 +23,8 @@ Told s f p = (p ≤ length s) × T (of_reading f)
 
 -- what a header comes to
 data HeadTold : Head → Type 0 where
-  head : {t a e : ℕ} → HeadTold (At t a e)
-  no_head : {f : Fault} {p : ℕ} → T (of_reading f) → HeadTold (No f p)
+  head : {t a e : ℕ} → HeadTold (found t a e)
+  no_head : {f : Fault} {p : ℕ} → T (of_reading f) → HeadTold (refused f p)
 
 head_by : (t : Bool) {x y : Head} → HeadTold x → HeadTold y → HeadTold (pick t x y)
 head_by t f g = by_pick HeadTold t (λ _. f) (λ _. g)
@@ -47,14 +43,14 @@ unfolding header high_tag
 header_told s at end = search (head_by, no_head, length_told, further_told, tt) depth 12
 
 -- a header is refused with such a fault
-pub header_fault : (s : List ℕ) (at end : ℕ) {f : Fault} {p : ℕ} → header s at end ≡ No f p → T (of_reading f)
+pub header_fault : (s : List ℕ) (at end : ℕ) {f : Fault} {p : ℕ} → header s at end ≡ refused f p → T (of_reading f)
 header_fault s at end {f} {p} e = go (subst HeadTold e (header_told s at end))
   where
-    go : HeadTold (No f p) → T (of_reading f)
+    go : HeadTold (refused f p) → T (of_reading f)
     go (no_head t) = t
 
 -- and so are contents
-pub value_fault : (f : Form) (c : List ℕ) {x : Fault} → value f c ≡ Wrong x → T (of_reading x)
+pub value_fault : (f : Form) (c : List ℕ) {x : Fault} → value f c ≡ Err x → T (of_reading x)
 value_fault f c e = go (own_fault f c e)
   where
     go : {g : Form} {x : Fault} → Faulty g x → T (of_reading x)
@@ -69,19 +65,19 @@ value_fault f c e = go (own_fault f c e)
 
 -- what a sealed run comes to, turn by turn
 data RunTold : Run → Type 0 where
-  ends : {i : ℕ} → RunTold (Ends i)
-  no_run : {f : Fault} {p : ℕ} → T (of_reading f) → RunTold (Refused f p)
+  ends : {i : ℕ} → RunTold (Ok i)
+  no_run : {f : Fault} {p : ℕ} → T (of_reading f) → RunTold (refused f p)
 
 data TurnTold : Turn ℕ Run → Type 0 where
   goes : {i : ℕ} → TurnTold (next i)
   stops : {r : Run} → RunTold r → TurnTold (done r)
 
-loop_told : (f : ℕ → Turn ℕ Run) (end : ℕ) → ((i : ℕ) → TurnTold (f i)) → (k i : ℕ) → RunTold (loop f (Ends end) k i)
+loop_told : (f : ℕ → Turn ℕ Run) (end : ℕ) → ((i : ℕ) → TurnTold (f i)) → (k i : ℕ) → RunTold (loop f (Ok end) k i)
 unfolding loop
 loop_told f end h zero i = ends
 loop_told f end h (suc k) i = go (loop_told f end h k) (h i)
   where
-    go : ((j : ℕ) → RunTold (loop f (Ends end) k j)) → {t : Turn ℕ Run} → TurnTold t → RunTold (elim t [ next j ↦ loop f (Ends end) k j | done r ↦ r ])
+    go : ((j : ℕ) → RunTold (loop f (Ok end) k j)) → {t : Turn ℕ Run} → TurnTold t → RunTold (elim t [ next j ↦ loop f (Ok end) k j | done r ↦ r ])
     go ih (goes {i = j}) = ih j
     go ih (stops g) = g
 
@@ -100,8 +96,8 @@ run_told zero s out at end = loop_told _ end (λ i. by_choose TurnTold (ltb i en
 run_told (suc l) s out at end = loop_told _ end (λ i. by_choose TurnTold (ltb i end) (λ _ _. one_told (λ a e. sealed_run l s [] a e) (run_told l s []) out i (header_told s i end)) (λ _ _. stops ends)) (suc (end - at)) at
 
 -- and so is a sealed run
-pub sealed_fault : (l : ℕ) (s out : List ℕ) (at end : ℕ) {f : Fault} {p : ℕ} → sealed_run l s out at end ≡ Refused f p → T (of_reading f)
+pub sealed_fault : (l : ℕ) (s out : List ℕ) (at end : ℕ) {f : Fault} {p : ℕ} → sealed_run l s out at end ≡ refused f p → T (of_reading f)
 sealed_fault l s out at end {f} {p} e = go (subst RunTold e (run_told l s out at end))
   where
-    go : RunTold (Refused f p) → T (of_reading f)
+    go : RunTold (refused f p) → T (of_reading f)
     go (no_run t) = t

@@ -1,10 +1,8 @@
 -- "House records" and "Refusals and their places" of document 01, record files and EF.DIR of document 02: files, their frames, and the whole dump.
-use Rattle.std.specs.Prelude.{ℕ, zero, suc, ◌+◌, ◌-◌, ◌*◌, List, [], ◌∷◌, ◌++◌, map, Bool, true, false, ◌||◌, ◌&&◌, length, get_or, drop, ltb, leb, eqb}
+use Rattle.std.specs.Prelude.{ℕ, zero, suc, ◌+◌, ◌-◌, ◌*◌, List, [], ◌∷◌, ◌++◌, map, Bool, true, false, ◌||◌, ◌&&◌, length, get_or, drop, ltb, leb, eqb, Err, Ok}
 use Rattle.std.proofs.Math.Seq.{slice}
 use Rattle.elements.specs.declared.fault.Fault.{Fault}
 use Rattle.elements.specs.declared.fault.Fault.TheVariants.{DumpSize, RecordBroken, RecordMissing, RecordKind, FileLength, PathLength, RecordOver, PathTwice, FileDiffers, FileMissing, FileExtra, AuthIdTwice}
-use Rattle.elements.specs.declared.answer.Head.{Head}
-use Rattle.elements.specs.declared.answer.Head.TheVariants.{At, No}
 use Rattle.elements.specs.Choice.{choose}
 use Rattle.elements.specs.Header.{header}
 use Rattle.rules.specs.declared.table.Need.TheVariants.{Required}
@@ -18,6 +16,7 @@ use Rattle.rules.specs.Grammar.{Site, site_of}
 use Rattle.rules.specs.FileLayouts as filing
 use Rattle.rules.specs.Layout.{body_of}
 use Rattle.rules.specs.Layouts as layouts
+use Rattle.elements.specs.Answer.{Head}
 
 -- a path entry of EF.OD: its tag, and the path that it names
 pub record Name : Type 0 where
@@ -165,16 +164,16 @@ module _ (s : List ℕ) where
 
   -- the place of the path entry after m others, from a place of EF.OD on
   abbrev pub is_path : Head → Bool
-  is_path (No f p) = false
-  is_path (At t a e) = eqb t 0x30
+  is_path (Err r) = false
+  is_path (Ok x) = eqb x.0 0x30
 
   abbrev pub is_naming : Head → Bool
-  is_naming (No f p) = false
-  is_naming (At t a e) = leb 0xa0 t && leb t 0xa8 && is_path (header s a e)
+  is_naming (Err r) = false
+  is_naming (Ok x) = leb 0xa0 x.0 && leb x.0 0xa8 && is_path (header s x.1 x.2)
 
   abbrev pub end_of : ℕ → Head → ℕ
-  end_of at (No f p) = at
-  end_of at (At t a e) = e
+  end_of at (Err r) = at
+  end_of at (Ok x) = x.2
 
   unfoldable pub entry_place : ℕ → ℕ → ℕ → ℕ → ℕ
   entry_place zero m end at = at

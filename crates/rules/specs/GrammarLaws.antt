@@ -1,7 +1,7 @@
 -- A reader reads a part: what it takes is the part's encoding, and every encoding is taken. One law for each way to put parts together.
 use Prim.Native.Nat.{ℕ, suc, ◌+◌, ◌-◌, ◌≤◌, ◌<◌}
 use mathlib.Core.List.{List, [], ◌∷◌, ◌++◌, append_assoc, append-nil}
-use Rattle.std.specs.Prelude.{Bool, true, not, ◌||◌, ◌&&◌, ◌≡◌, ltb, eqb, T}
+use Rattle.std.specs.Prelude.{Bool, true, not, ◌||◌, ◌&&◌, ◌≡◌, ltb, eqb, T, Err, Ok}
 use Rattle.std.proofs.Math.Bool.{false}
 use Rattle.std.proofs.Math.Option.{none, some}
 use Rattle.std.proofs.Math.Path.{refl, sym, ap}
@@ -13,10 +13,6 @@ use Rattle.std.proofs.Math.Seq.{slice, slice_empty, length-slice}
 use borrow.Author.Tests.{ltb-true, ltb-false, lt-ltb, le-ltb, eqb-true, eq-eqb}
 use Rattle.elements.specs.declared.fault.Fault.{Fault}
 use Rattle.elements.specs.declared.fault.Fault.TheVariants.{BadSize, NotDue, Missing}
-use Rattle.elements.specs.declared.answer.Head.{Head}
-use Rattle.elements.specs.declared.answer.Head.TheVariants.{At, No}
-use Rattle.elements.specs.declared.answer.Run.{Run}
-use Rattle.elements.specs.declared.answer.Run.TheVariants.{Ends, Refused}
 use Rattle.elements.specs.Choice.{choose}
 use Rattle.elements.specs.ChoiceLaws.{by_choose}
 use Rattle.elements.specs.Lists.{Bytes, cons, join}
@@ -32,6 +28,7 @@ use Rattle.rules.specs.Parts.{component, due, absent, surplus, whatever, inside,
 use Rattle.rules.specs.Grammar.{Element, low, element_bytes, first_of, IsElement, SealedRun, over, shallow, deep, Site, Where, here, into, Part, Item, empty, ◌and◌, one, optional, slot, tagged, choice, raw, unless_empty, rest}
 use Rattle.rules.specs.ElementLaws.{is_end, Stands, Headed, head_sound, Placed, head_complete, run_sound, run_complete}
 use Rattle.rules.specs.FaultLaws.{Told, header_fault, sealed_fault}
+use Rattle.elements.specs.Answer.{Head, Run, found, refused}
 pub use Rattle.rules.specs.ElementLaws.{low_tag, LowTag, low_tag_lem, low_is, low_first, low_bytes}
 
 -- what may not follow a part: elements with one of these tags, or anything
@@ -306,12 +303,12 @@ raw_law {site} {s} r M test g k = record {
 
 module _ (s : List ℕ) (bytes : Bytes s) (small : length s ≤ 32768) where
   -- by the header at a place
-  pub by_head : (X : Res → Type 0) (g : Head → Res) (end at : ℕ) → at ≤ end → end ≤ length s → ((f : Fault) (p : ℕ) → Told s f p → X (g (No f p))) → ((t a e : ℕ) → Headed s at end t a e → X (g (At t a e))) → X (g (header s at end))
+  pub by_head : (X : Res → Type 0) (g : Head → Res) (end at : ℕ) → at ≤ end → end ≤ length s → ((f : Fault) (p : ℕ) → Told s f p → X (g (refused f p))) → ((t a e : ℕ) → Headed s at end t a e → X (g (found t a e))) → X (g (header s at end))
   by_head X g end at h l x y = go (header s at end) refl
     where
       go : (w : Head) → header s at end ≡ w → X (g w)
-      go (No f p) q = x f p (omega (arith, (header_refuses s at end h q).1), header_fault s at end q)
-      go (At t a e) q = y t a e (head_sound s bytes at end l q)
+      go (Err r) q = x r.0 r.1 (omega (arith, (header_refuses s at end h q).1), header_fault s at end q)
+      go (Ok x) q = y x.0 x.1 x.2 (head_sound s bytes at end l q)
 
 module _ (site : Site) (s : List ℕ) (bytes : Bytes s) (small : length s ≤ 32768) where
   -- the rest of a sequence
@@ -322,8 +319,8 @@ module _ (site : Site) (s : List ℕ) (bytes : Bytes s) (small : length s ≤ 32
       (λ _ u. takes {n = at} (record { it = []; meets = over refl; low = le_refl at; high = h; bytes = refl; book = refl; counted = refl; marks = tt; room = le_refl 0; closes = λ _. omega (arith, ltb-false at end u) }))
     where
       go : at < end → (r : Run) → sealed_run 16 s out at end ≡ r → Reads site s (rest kind out) (λ _. 0) 0 0 close end at (keep (rec kind (slice at end s) ∷ []) end r)
-      go u (Refused f p) q = refuses p (omega (arith, (sealed_refuses 16 s out at end h q).1), sealed_fault 16 s out at end q)
-      go u (Ends i) q = whole_reads (rest kind out) (rec kind (slice at end s) ∷ []) (slice at end s) (run_sound s bytes 16 out at end h l q) h refl (rw (cons s at end u l) refl)
+      go u (Err r) q = refuses r.1 (omega (arith, (sealed_refuses 16 s out at end h q).1), sealed_fault 16 s out at end q)
+      go u (Ok i) q = whole_reads (rest kind out) (rec kind (slice at end s) ∷ []) (slice at end s) (run_sound s bytes 16 out at end h l q) h refl (rw (cons s at end u l) refl)
 
   rest_starts : (out c : List ℕ) {l : ℕ} → SealedRun l out c → Starts (λ t. not (among t out)) true c
   rest_starts out c (over e) = without tt e

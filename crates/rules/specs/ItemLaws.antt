@@ -1,7 +1,7 @@
 -- Laws of what is chosen by a tag, of what is sealed, of a record in front, and of repetition.
 use Prim.Native.Nat.{ℕ, zero, suc, ◌+◌, ◌-◌, ◌≤◌}
 use mathlib.Core.List.{List, [], ◌∷◌, ◌++◌, append_assoc}
-use Rattle.std.specs.Prelude.{Bool, false, not, ◌⊎◌, ◌≡◌, T}
+use Rattle.std.specs.Prelude.{Bool, false, not, ◌⊎◌, ◌≡◌, T, Err, Ok}
 use Rattle.std.proofs.Math.Bool.{true}
 use Rattle.std.proofs.Common.{inl, inr, ◌∙◌, subst, arith, T_not, ltb-false, lt-ltb, le-ltb}
 use Rattle.std.proofs.Math.Path.{refl, sym, ap}
@@ -10,8 +10,6 @@ use Rattle.std.proofs.Math.ListN.{length, length-append}
 use Rattle.std.proofs.Math.Seq.{slice, length-slice}
 use Rattle.elements.specs.declared.fault.Fault.{Fault}
 use Rattle.elements.specs.declared.fault.Fault.TheVariants.{NotDue}
-use Rattle.elements.specs.declared.answer.Run.{Run}
-use Rattle.elements.specs.declared.answer.Run.TheVariants.{Ends, Refused}
 use Rattle.elements.specs.Choice.{choose}
 use Rattle.elements.specs.ChoiceLaws.{by_choose}
 use Rattle.elements.specs.Lists.{Bytes}
@@ -26,6 +24,7 @@ use Rattle.rules.specs.Grammar.{Element, element_bytes, first_of, IsElement, Sea
 use Rattle.rules.specs.ElementLaws.{tag_is, is_end, Stands, run_sound, run_complete, head_complete}
 use Rattle.rules.specs.FaultLaws.{Told, sealed_fault}
 use Rattle.rules.specs.GrammarLaws.{marks_append, Stop, tags, close, Look, look, Starts, without, begun, Follows, Facts, Reads, refuses, takes, Goes, progress, reached, Law, BodyLaw, Plain, PlainBody, ItemLaw, whole_reads, whole_goes}
+use Rattle.elements.specs.Answer.{Run, refused}
 
 -- the same with more room
 pub lift_reads : {site : Site} {s : List ℕ} {P : Part} {t : Stop} {end at : ℕ} (k N : ℕ) {r : Res} → k ≤ N → Reads site s P (λ _. 0) 0 0 t end at r → Reads site s P (λ _. 0) k N t end at r
@@ -97,31 +96,31 @@ behind_body r f = record { sound = λ at a e i h l. behind_reads r (f.sound at a
 
 module _ (site : Site) (s : List ℕ) (bytes : Bytes s) (small : length s ≤ 32768) where
   -- a sealed element
-  inner_sound : (b : Bool) (c : List ℕ) (a e n : ℕ) → a ≤ e → e ≤ length s → slice a e s ≡ c → choose b (λ _. sealed_run 15 s [] a e) (λ _. Ends e) ≡ Ends n → SealedIn b c
+  inner_sound : (b : Bool) (c : List ℕ) (a e n : ℕ) → a ≤ e → e ≤ length s → slice a e s ≡ c → choose b (λ _. sealed_run 15 s [] a e) (λ _. Ok e) ≡ Ok n → SealedIn b c
   inner_sound true c a e n h l q r = rw q at (run_sound s bytes 15 [] a e h l r)
   inner_sound false c a e n h l q r = tt
 
-  inner_complete : (b : Bool) (c : List ℕ) (a e : ℕ) → a ≤ e → e ≤ length s → slice a e s ≡ c → SealedIn b c → choose b (λ _. sealed_run 15 s [] a e) (λ _. Ends e) ≡ Ends e
+  inner_complete : (b : Bool) (c : List ℕ) (a e : ℕ) → a ≤ e → e ≤ length s → slice a e s ≡ c → SealedIn b c → choose b (λ _. sealed_run 15 s [] a e) (λ _. Ok e) ≡ Ok e
   inner_complete true c a e h l q r = run_complete s small 15 [] a e h l (rw q r)
   inner_complete false c a e h l q r = refl
 
-  inner_placed : (b : Bool) (a e : ℕ) {f : Fault} {p : ℕ} → a ≤ e → e ≤ length s → choose b (λ _. sealed_run 15 s [] a e) (λ _. Ends e) ≡ Refused f p → Told s f p
+  inner_placed : (b : Bool) (a e : ℕ) {f : Fault} {p : ℕ} → a ≤ e → e ≤ length s → choose b (λ _. sealed_run 15 s [] a e) (λ _. Ok e) ≡ refused f p → Told s f p
   inner_placed true a e h l q = (omega (arith, (sealed_refuses 15 s [] a e h q).1), sealed_fault 15 s [] a e q)
   inner_placed false a e h l q = let z : ◌≡◌ {A = ℕ} 0 1 = cc in absurd (omega arith)
 
   pub sealed_law : (which : ℕ → Bool) (kind : ℕ) (front : ℕ → List ℕ) → ItemLaw site s (λ t at a e. parts.sealed s kind (front t) t at a e) (sealed_one which kind front) (λ _. 0) 0 0 (λ x. which (first_of x) ≡ true)
   unfolding parts.sealed
   sealed_law which kind front = record {
-    sound = λ x i m end at a e st l. go x i m end at a e st l (choose (constructed (first_of x)) (λ _. sealed_run 15 s [] a e) (λ _. Ends e)) refl;
+    sound = λ x i m end at a e st l. go x i m end at a e st l (choose (constructed (first_of x)) (λ _. sealed_run 15 s [] a e) (λ _. Ok e)) refl;
     is = λ x y. y.0;
     begins = λ x y. y.2;
     complete = λ x y r end at a e st l. whole_goes (omega (arith, st.after, st.order)) (rw (inner_complete (constructed (first_of x)) x.contents a e st.order (omega (arith, st.inside)) st.within y.1, st.whole) refl);
   }
     where
-      go : (x : Element) → IsElement x → which (first_of x) ≡ true → (end at a e : ℕ) → Stands s at end x a e → end ≤ length s → (r : Run) → choose (constructed (first_of x)) (λ _. sealed_run 15 s [] a e) (λ _. Ends e) ≡ r →
+      go : (x : Element) → IsElement x → which (first_of x) ≡ true → (end at a e : ℕ) → Stands s at end x a e → end ≤ length s → (r : Run) → choose (constructed (first_of x)) (λ _. sealed_run 15 s [] a e) (λ _. Ok e) ≡ r →
           Reads site s (one (sealed_one which kind front)) (λ _. 0) 0 0 close e at (keep (rec kind (front (first_of x) ++ slice at e s) ∷ []) e r)
-      go x i m end at a e st l (Refused f p) q = refuses p (inner_placed (constructed (first_of x)) a e st.order (omega (arith, st.inside)) q)
-      go x i m end at a e st l (Ends n) q =
+      go x i m end at a e st l (Err r) q = refuses r.1 (inner_placed (constructed (first_of x)) a e st.order (omega (arith, st.inside)) q)
+      go x i m end at a e st l (Ok n) q =
           whole_reads (one (sealed_one which kind front)) (rec kind (front (first_of x) ++ slice at e s) ∷ []) x (i, inner_sound (constructed (first_of x)) x.contents a e n st.order (omega (arith, st.inside)) st.within q, m) (omega (arith, st.after, st.order)) st.whole (rw st.whole refl)
 
 pub bytes_some : (x : Element) → 1 ≤ length (element_bytes x)

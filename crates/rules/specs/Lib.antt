@@ -1,6 +1,7 @@
 pub mod Reading
 pub mod Parts
 pub mod Tables
+pub mod Lines
 pub mod Looks
 pub mod Rendering
 pub mod Rulings
@@ -33,6 +34,7 @@ pub mod Entries
 pub mod FileLayouts
 pub mod Objects
 pub mod Files
+pub mod Compared
 pub mod Book
 pub mod Render
 pub mod Write

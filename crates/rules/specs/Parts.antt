@@ -1,17 +1,11 @@
 -- The forms that every layout is made of: components by rows, what is sealed, repetition.
-use Rattle.std.specs.Prelude.{ℕ, zero, suc, ◌+◌, List, [], ◌∷◌, ◌++◌, Bool, false, ◌&&◌, not, ℤ, pos, neg_ℤ, length, ltb, eqb}
+use Rattle.std.specs.Prelude.{ℕ, zero, suc, ◌+◌, List, [], ◌∷◌, ◌++◌, Bool, false, ◌&&◌, not, ℤ, pos, neg_ℤ, length, ltb, eqb, Err, Ok}
 use Rattle.std.specs.Int.Signed.{le_z}
 use Rattle.std.proofs.Math.Seq.{slice}
 use Rattle.elements.specs.declared.fault.Fault.{Fault}
 use Rattle.elements.specs.declared.fault.Fault.TheVariants.{DefaultWritten, OutOfRange, BadSize, NotDue, OneMore, Missing}
 use Rattle.elements.specs.declared.answer.Form.{Form}
 use Rattle.elements.specs.declared.answer.Form.TheVariants as form
-use Rattle.elements.specs.declared.answer.Head.{Head}
-use Rattle.elements.specs.declared.answer.Head.TheVariants.{At, No}
-use Rattle.elements.specs.declared.answer.Run.{Run}
-use Rattle.elements.specs.declared.answer.Run.TheVariants as run
-use Rattle.elements.specs.declared.answer.Value.{Value}
-use Rattle.elements.specs.declared.answer.Value.TheVariants.{Of, Wrong}
 use Rattle.elements.specs.Choice.{choose}
 use Rattle.elements.specs.Header.{header}
 use Rattle.elements.specs.Sealed.{constructed, sealed_run}
@@ -22,6 +16,7 @@ use Rattle.rules.specs.declared.table.Need.{Need}
 use Rattle.rules.specs.declared.table.Need.TheVariants.{Required, Optional, Default}
 use Rattle.rules.specs.declared.table.Row.{Row}
 use Rattle.rules.specs.Reading.{Rec, rec, Res, took, fails, also, and_then, Reader, Body, twos}
+use Rattle.elements.specs.Answer.{Head, Run, Value}
 
 -- a row's bounds: "0 to 255", "minus 128 to 255"
 pub record Bounds : Type 0 where
@@ -76,8 +71,8 @@ payload form.Time r c n m = good c
 payload form.Null r c n m = good c
 
 abbrev pub judged : Row → List ℕ → Value → Val
-judged r c (Wrong f) = wrong f
-judged r c (Of n m) = payload r.form r c n m
+judged r c (Err f) = wrong f
+judged r c (Ok x) = payload r.form r c x.0 x.1
 
 -- what to say where a component is not there
 abbrev pub absent : Need → ℕ → Res → Res
@@ -87,16 +82,16 @@ absent (Default d) at r = took [] [] at
 
 -- an element with a tag that is due, and its body
 abbrev pub due : ℕ → Need → Body → ℕ → Head → Res
-due tag need b at (No f p) = fails f p
-due tag need b at (At t a e) = choose (eqb t tag) (λ _. b at a e) (λ _. absent need at (fails NotDue at))
+due tag need b at (Err r) = fails r.0 r.1
+due tag need b at (Ok x) = choose (eqb x.0 tag) (λ _. b at x.1 x.2) (λ _. absent need at (fails NotDue at))
 
 abbrev pub surplus : ℕ → Head → Res
-surplus at (No f p) = fails f p
-surplus at (At t a e) = fails OneMore at
+surplus at (Err r) = fails r.0 r.1
+surplus at (Ok x) = fails OneMore at
 
 abbrev pub whatever : (ℕ → Body) → ℕ → Head → Res
-whatever b at (No f p) = fails f p
-whatever b at (At t a e) = b t at a e
+whatever b at (Err r) = fails r.0 r.1
+whatever b at (Ok x) = b x.0 at x.1 x.2
 
 -- the contents of an element, by a reader
 abbrev pub inside : Reader → Body
@@ -146,8 +141,8 @@ to_end end at = ltb at end
 
 -- what was checked and is kept as it is
 abbrev pub keep : List Rec → ℕ → Run → Res
-keep bs e (run.Ends i) = took bs [] e
-keep bs e (run.Refused f p) = fails f p
+keep bs e (Ok i) = took bs [] e
+keep bs e (Err r) = fails r.0 r.1
 
 module _ (s : List ℕ) where
   -- "Rest means sealed elements after the listed components; the tag of an optional or defaulted component of that sequence may not occur there."
@@ -156,7 +151,7 @@ module _ (s : List ℕ) where
 
   -- the contents of a sealed element on the first level
   abbrev pub inner_run : ℕ → ℕ → ℕ → Run
-  inner_run t a e = choose (constructed t) (λ _. sealed_run 15 s [] a e) (λ _. run.Ends e)
+  inner_run t a e = choose (constructed t) (λ _. sealed_run 15 s [] a e) (λ _. Ok e)
 
   -- a sealed element on the first level, whole, behind what stands in front of it in its record
   unfoldable pub sealed : ℕ → List ℕ → ℕ → Body

@@ -1,6 +1,5 @@
-ghost use Rattle.std.specs.Prelude.{◌≡◌, [], ◌∷◌, ◌+◌, ◌*◌, ◌^◌, ◌≤◌, ◌<◌, length};
+ghost use Rattle.std.specs.Prelude.{◌≡◌, ◌+◌, ◌*◌, ◌≤◌, length};
 ghost use Rattle.std.proofs.Math.Seq.{slice};
-ghost use Rattle.elements.specs.Put.{Put};
 ghost use Rattle.rules.specs.Files.{two, equal};
 
 // A number in two bytes, the low one first.
@@ -23,29 +22,5 @@ pub fn same_bytes(s: &[u8], i: usize, j: usize, t: &[u8], k: usize, l: usize) ->
     requires { (i ≤ j) × (j ≤ length s.now) × (k ≤ l) × (l ≤ length t.now) }
     ensures { result ≡ equal (slice i j s.now) (slice k l t.now) }
 {
-    if j - i != l - k {
-        return false;
-    }
-    let mut x = i;
-    let mut y = k;
-    while x < j {
-        if s[x] != t[y] {
-            return false;
-        }
-        x += 1;
-        y += 1;
-    }
-    true
-}
-
-// A number into a lent slice of numbers, where that has a place for it.
-pub fn store(numbers: &mut [u32], o: usize, v: u32) -> usize
-    requires { o < 2 ^ 63 }
-    ensures { Put numbers.old numbers.new o result (v ∷ []) }
-{
-    if o < numbers.len() {
-        numbers[o] = v;
-        return o + 1;
-    }
-    o + 1
+    s[i..j] == t[k..l]
 }

@@ -5,7 +5,7 @@ ghost use Rattle.rules.specs.Tables.{rows_of, beside, kept_of};
 
 use crate::rows::{count_of, row_of};
 use crate::table::{Need, Sequence};
-use elements::put_byte;
+use elements::put;
 
 // The tag of a component, unless it is required: from o on in `tags`.
 fn put_unless_required(need: Need, tag: u8, tags: &mut [u8], o: usize) -> usize
@@ -14,8 +14,7 @@ fn put_unless_required(need: Need, tag: u8, tags: &mut [u8], o: usize) -> usize
 {
     match need {
         Need::Required => o,
-        Need::Optional => put_byte(tags, o, tag),
-        Need::Default(_) => put_byte(tags, o, tag),
+        Need::Optional | Need::Default(_) => put(tags, o, tag),
     }
 }
 
@@ -25,20 +24,20 @@ fn put_beside(q: Sequence, tags: &mut [u8]) -> usize
 {
     match q {
         Sequence::Info => 0,
-        Sequence::Common => put_byte(tags, 0, 0x30),
+        Sequence::Common => put(tags, 0, 0x30),
         Sequence::Rule => 0,
         Sequence::Key => 0,
         Sequence::CertificateAttributes => 0,
         Sequence::Authentication => 0,
         Sequence::PrivateKeyAttributes => 0,
-        Sequence::PasswordAttributes => put_byte(tags, 0, 0x30),
+        Sequence::PasswordAttributes => put(tags, 0, 0x30),
         Sequence::Path => 0,
-        Sequence::Template => put_byte(tags, 0, 0x73),
+        Sequence::Template => put(tags, 0, 0x73),
         Sequence::Discretionary => {
-            let a = put_byte(tags, 0, 0x06);
-            let b = put_byte(tags, a, 0x30);
-            let c = put_byte(tags, b, 0xa0);
-            put_byte(tags, c, 0x31)
+            let a = put(tags, 0, 0x06);
+            let b = put(tags, a, 0x30);
+            let c = put(tags, b, 0xa0);
+            put(tags, c, 0x31)
         }
         Sequence::OdfPath => 0,
         Sequence::InfoPath => 0,
@@ -50,14 +49,10 @@ fn put_rows(q: Sequence, tags: &mut [u8], o: usize) -> usize
     requires { o ≤ 4 }
     ensures { Put tags.old tags.new o result (kept_out (rows_of q)) }
 {
-    let last = count_of(q);
     let mut n = o;
-    let mut k = 0;
-    while k < last {
+    for k in 0..count_of(q) {
         let row = row_of(q, k);
-        let need = row.need;
-        n = put_unless_required(need, row.tag, tags, n);
-        k += 1;
+        n = put_unless_required(row.need, row.tag, tags, n);
     }
     n
 }

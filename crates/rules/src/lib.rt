@@ -5,17 +5,15 @@ mod book;
 mod bytes;
 mod class;
 mod kept;
-mod outcome;
 mod rows;
 mod site;
 mod table;
 mod types;
 
 pub use book::{byte_at, is_name, is_next, record_end};
-pub use bytes::{of_two, same_bytes, store, word};
+pub use bytes::{of_two, same_bytes, word};
 pub use class::class_of;
 pub use kept::kept_out;
-pub use outcome::Outcome;
 pub use rows::{count_of, rest_of, row_of};
 pub use site::Site;
 pub use table::{Class, Need, ObjectType, Row, Sequence, Sort};

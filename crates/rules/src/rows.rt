@@ -1,5 +1,5 @@
 ghost use Rattle.std.specs.Prelude.{◌≡◌, ◌<◌, length, get_or};
-ghost use Rattle.rules.specs.Parts.{between, row};
+ghost use Rattle.rules.specs.Lines.{row_of_line, lines_of};
 ghost use Rattle.rules.specs.Tables.{rows_of, rest_of, no_row};
 
 use crate::table::{Need, Row, Sequence};
@@ -149,19 +149,40 @@ const INFO_PATH: [Line; 3] = [
     Line(0x80, 0x020c, Form::Integer, Need::Optional, 0, 65535),
 ];
 
-// A line as a row.
-fn row(l: Line) -> Row
-    ensures { result ≡ row l.0 l.1 l.2 l.3 (between l.4 l.5) }
+impl From<Line> for Row {
+    ghost from_gives = { λ l r. r ≡ row_of_line l };
+
+    fn from(l: Line) -> Row {
+        let Line(tag, kind, form, need, low, high) = l;
+        Row {
+            tag,
+            kind,
+            form,
+            need,
+            low,
+            high,
+        }
+    }
+}
+
+// The lines of a sequence.
+fn lines(q: Sequence) -> &'static [Line]
+    ensures { result.now ≡ lines_of q }
 {
-    let form = l.2;
-    let need = l.3;
-    Row {
-        tag: l.0,
-        kind: l.1,
-        form: form,
-        need: need,
-        low: l.4,
-        high: l.5,
+    match q {
+        Sequence::Info => &INFO,
+        Sequence::Common => &COMMON,
+        Sequence::Rule => &RULE,
+        Sequence::Key => &KEY,
+        Sequence::CertificateAttributes => &CERTIFICATE,
+        Sequence::Authentication => &AUTHENTICATION,
+        Sequence::PrivateKeyAttributes => &PRIVATE_KEY,
+        Sequence::PasswordAttributes => &PASSWORD,
+        Sequence::Path => &PATH,
+        Sequence::Template => &TEMPLATE,
+        Sequence::Discretionary => &DISCRETIONARY,
+        Sequence::OdfPath => &ODF_PATH,
+        Sequence::InfoPath => &INFO_PATH,
     }
 }
 
@@ -170,68 +191,14 @@ pub fn row_of(q: Sequence, i: usize) -> Row
     requires { i < length (rows_of q) }
     ensures { result ≡ get_or (rows_of q) i no_row }
 {
-    match q {
-        Sequence::Info => {
-            return row(INFO[i]);
-        }
-        Sequence::Common => {
-            return row(COMMON[i]);
-        }
-        Sequence::Rule => {
-            return row(RULE[i]);
-        }
-        Sequence::Key => {
-            return row(KEY[i]);
-        }
-        Sequence::CertificateAttributes => {
-            return row(CERTIFICATE[i]);
-        }
-        Sequence::Authentication => {
-            return row(AUTHENTICATION[i]);
-        }
-        Sequence::PrivateKeyAttributes => {
-            return row(PRIVATE_KEY[i]);
-        }
-        Sequence::PasswordAttributes => {
-            return row(PASSWORD[i]);
-        }
-        Sequence::Path => {
-            return row(PATH[i]);
-        }
-        Sequence::Template => {
-            return row(TEMPLATE[i]);
-        }
-        Sequence::Discretionary => {
-            return row(DISCRETIONARY[i]);
-        }
-        Sequence::OdfPath => {
-            return row(ODF_PATH[i]);
-        }
-        Sequence::InfoPath => {
-            return row(INFO_PATH[i]);
-        }
-    }
+    Row::from(lines(q)[i])
 }
 
 // How many components a sequence has.
 pub fn count_of(q: Sequence) -> usize
     ensures { result ≡ length (rows_of q) }
 {
-    match q {
-        Sequence::Info => INFO.len(),
-        Sequence::Common => COMMON.len(),
-        Sequence::Rule => RULE.len(),
-        Sequence::Key => KEY.len(),
-        Sequence::CertificateAttributes => CERTIFICATE.len(),
-        Sequence::Authentication => AUTHENTICATION.len(),
-        Sequence::PrivateKeyAttributes => PRIVATE_KEY.len(),
-        Sequence::PasswordAttributes => PASSWORD.len(),
-        Sequence::Path => PATH.len(),
-        Sequence::Template => TEMPLATE.len(),
-        Sequence::Discretionary => DISCRETIONARY.len(),
-        Sequence::OdfPath => ODF_PATH.len(),
-        Sequence::InfoPath => INFO_PATH.len(),
-    }
+    lines(q).len()
 }
 
 // The kind that a sequence's rest is kept as; a Path has none.

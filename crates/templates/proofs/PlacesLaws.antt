@@ -10,12 +10,6 @@ use borrow.Author.Tests.{eq-eqb, ne_eqb, ltb-false}
 use Rattle.elements.specs.declared.fault.Fault.{Fault}
 use Rattle.elements.specs.declared.fault.Fault.TheVariants.{Missing}
 use Rattle.elements.specs.declared.answer.Form.TheVariants.{Octets}
-use Rattle.elements.specs.declared.answer.Head.{Head}
-use Rattle.elements.specs.declared.answer.Head.TheVariants.{At, No}
-use Rattle.elements.specs.declared.answer.Run.{Run}
-use Rattle.elements.specs.declared.answer.Run.TheVariants as run
-use Rattle.elements.specs.declared.answer.Value.{Value}
-use Rattle.elements.specs.declared.answer.Value.TheVariants.{Of, Wrong}
 use Rattle.elements.specs.Choice.{choose, pick}
 use Rattle.elements.specs.ChoiceLaws.{by_choose}
 use Rattle.elements.specs.Header.{header}
@@ -31,6 +25,8 @@ use Rattle.rules.specs.Rulings.{ours, headed_by, ours_in, unreached, reached}
 use Rattle.rules.specs.Layouts as layouts
 use Rattle.objects.specs.SeenLaws.{Seen, bad, gone, stood, seen}
 use Rattle.templates.specs.Templates.{ours_at, with_set, discretionary, opened_body, settled, template}
+use Rattle.elements.specs.Answer.{Head, Run, Value}
+use Rattle.std.specs.Prelude.{Err, Ok}
 
 -- a rest ends where its container ends, or was there already
 rest_far : (s : List ℕ) (kind : ℕ) (tags : List ℕ) (e m : ℕ) {bs : List Rec} {ms : List ℕ} {n : ℕ} → rest s kind tags e m ≡ took bs ms n → e ≤ n
@@ -38,8 +34,8 @@ unfolding rest
 rest_far s kind tags e m {bs} {ms} {n} = by_choose (λ w. w ≡ took bs ms n → e ≤ n) (ltb m e) (λ _ _. go (sealed_run 16 s tags m e)) (λ _ h q. let z : m ≡ n = cc in omega (arith, ltb-false m e h))
   where
     go : (v : Run) → keep (rec kind (slice m e s) ∷ []) e v ≡ took bs ms n → e ≤ n
-    go (run.Ends i) q = let z : e ≡ n = cc in omega arith
-    go (run.Refused f p) q = let z : ◌≡◌ {A = ℕ} 0 1 = cc in absurd (omega arith)
+    go (Ok i) q = let z : e ≡ n = cc in omega arith
+    go (Err r) q = let z : ◌≡◌ {A = ℕ} 0 1 = cc in absurd (omega arith)
 
 then_far : (s : List ℕ) (kind : ℕ) (tags : List ℕ) (e : ℕ) (w : Res) {bs : List Rec} {ms : List ℕ} {n : ℕ} → and_then w (λ m. rest s kind tags e m) ≡ took bs ms n → e ≤ n
 then_far s kind tags e (took cs ns m) {bs} {ms} {n} = go (rest s kind tags e m) refl
@@ -64,8 +60,8 @@ inner s end at = by_choose (Inner at) (ltb at end) (λ _ _. stands (header s at 
     opens a e h (fails f p) q = no_inner
 
     stands : (h : Head) → header s at end ≡ h → Inner at (due 0x73 Optional (opened_body s) at h)
-    stands (No f p) k = no_inner
-    stands (At t a e) k = by_choose (Inner at) (eqb t 0x73) (λ _ _. let u = header_in s at end k in opens a e (omega (arith, u.0, u.1)) (discretionary s e a) refl) (λ _ _. lacks_inner)
+    stands (Err r) k = no_inner
+    stands (Ok x) k = by_choose (Inner at) (eqb x.0 0x73) (λ _ _. let u = header_in s at end k in opens x.1 x.2 (omega (arith, u.0, u.1)) (discretionary s x.2 x.1) refl) (λ _ _. lacks_inner)
 
 -- and a rest
 data Last (kind : ℕ) : Res → Type 0 where
@@ -78,8 +74,8 @@ unfolding rest
 last s kind tags end at = by_choose (Last kind) (ltb at end) (λ _ _. go (sealed_run 16 s tags at end)) (λ _ _. lacks_rest)
   where
     go : (v : Run) → Last kind (keep (rec kind (slice at end s) ∷ []) end v)
-    go (run.Ends i) = has_rest (slice at end s)
-    go (run.Refused f p) = no_rest
+    go (Ok i) = has_rest (slice at end s)
+    go (Err r) = no_rest
 
 -- and the 4F: it tells whether the template is ours
 data Named (mine : Bool) : Res → Type 0 where
@@ -91,12 +87,12 @@ unfolding component row_body payload
 named s end at = by_choose (Named (ours_at s end at)) (ltb at end) (λ _ _. go (header s at end) refl) (λ _ _. no_name)
   where
     told : (c : List ℕ) (e : ℕ) → ours_at s end at ≡ ours c → (v : Value) → Named (ours_at s end at) (valued template_id_row at e (judged template_id_row c v))
-    told c e z (Wrong f) = no_name
-    told c e z (Of n m) = by_choose (λ (v : Val). Named (ours_at s end at) (valued template_id_row at e v)) (in_bounds template_id_row n m) (λ _ _. has_name c z) (λ _ _. no_name)
+    told c e z (Err f) = no_name
+    told c e z (Ok x) = by_choose (λ (v : Val). Named (ours_at s end at) (valued template_id_row at e v)) (in_bounds template_id_row x.0 x.1) (λ _ _. has_name c z) (λ _ _. no_name)
 
     go : (h : Head) → header s at end ≡ h → Named (ours_at s end at) (due 0x4f Required (row_body s template_id_row) at h)
-    go (No f p) k = no_name
-    go (At t a e) k = by_choose (Named (ours_at s end at)) (eqb t 0x4f) (λ _ _. told (slice a e s) e (rw k refl) (value Octets (slice a e s))) (λ _ _. no_name)
+    go (Err r) k = no_name
+    go (Ok x) k = by_choose (Named (ours_at s end at)) (eqb x.0 0x4f) (λ _ _. told (slice x.1 x.2 s) x.2 (rw k refl) (value Octets (slice x.1 x.2 s))) (λ _ _. no_name)
 
 -- the records of label, path, 73 and rest, and the places where these end
 data Label : List Rec → Type 0 where

@@ -9,35 +9,33 @@ use lib.ListN.{length, get_or, drop}
 use lib.Seq.{slice, slice_empty, drop-cons}
 use lib.Dec.{ltb, eqb}
 use borrow.Author.Tests.{eq-eqb, ne_eqb, ltb-true}
-use Rattle.elements.specs.declared.fault.Fault.{Fault}
 use Rattle.elements.specs.declared.fault.Fault.TheVariants.{Missing}
-use Rattle.elements.specs.declared.answer.Head.{Head}
-use Rattle.elements.specs.declared.answer.Head.TheVariants.{At, No}
 use Rattle.elements.specs.Header.{header}
 use Rattle.elements.specs.Choice.{pick}
 use Rattle.elements.specs.ChoiceLaws.{both_true}
-use Rattle.elements.specs.HeaderLaws.{header_in, header_sound}
+use Rattle.elements.specs.HeaderLaws.{header_sound}
 use Rattle.elements.specs.Lists.{Bytes, cons}
 use Rattle.elements.specs.Put.{Put}
 use Rattle.elements.specs.PutLaws.{put_put, put_length}
 use Rattle.elements.specs.Record.{record_bytes}
-use Rattle.objects.specs.declared.part.Part.{Part}
-use Rattle.objects.specs.declared.part.Part.TheVariants.{Took, Fails}
 use Rattle.rules.specs.Reading.{rec, Res, also}
 use Rattle.rules.specs.Parts.{sealed}
-use Rattle.rules.specs.Files.{to_fill, fill, dir}
+use Rattle.rules.specs.Files.{to_fill}
 use Rattle.rules.specs.FileLayouts.{dir_tag, dir_body}
 use Rattle.rules.specs.Book.{encode}
 use Rattle.rules.specs.Rulings.{starts_with, ours, headed_by}
-use Rattle.objects.specs.declared.part.Due.{Due}
-use Rattle.objects.specs.declared.part.Due.TheVariants.{Here}
 use Rattle.rules.specs.declared.table.Need.{Need}
-use Rattle.objects.specs.Did.{Did, did, fell, Forward, Stays, Dues}
-use Rattle.objects.specs.DidLaws.{did_none, did_as, did_same, did_high, did_small, did_then, did_fails, element_here, head_low}
+use Rattle.objects.specs.Did.{Did, did, fell, Forward, Dues, Part, came}
+use Rattle.objects.specs.DidLaws.{due_low, did_none, did_as, did_same, did_high, did_small, element_here, head_low}
 use Rattle.objects.specs.RepeatLaws.{Going, going_none, going_step, going_fails, going_all}
 use Rattle.files.specs.ObjectsLaws.{did_open}
-use Rattle.templates.specs.Templates.{ours_at, unreached_by, settled, from_name, template, item, items, headed_items}
+use Rattle.templates.specs.Templates.{ours_at, unreached_by, settled, from_name, template, item, items}
 use Rattle.templates.proofs.PlacesLaws.{by_places}
+use Rattle.elements.specs.Answer.{refused}
+use Rattle.std.specs.Prelude.{Option, Some, Ok, Err}
+use Rattle.elements.specs.declared.answer.Header.{Header}
+use Rattle.elements.specs.declared.answer.Refusal.{Refusal}
+use Rattle.objects.specs.declared.part.Cursor.{Cursor}
 
 -- a record in front of what was read
 pub did_headed : (kind : ℕ) (p : List ℕ) {a b c : List ℕ} {o q x e : ℕ} {w : Res} {r : Part} → Put a b o q (record_bytes kind p) → Did b c q x e w r → Did a c o x e (headed_by kind (λ _. p) w) r
@@ -51,8 +49,8 @@ did_ahead kind f (did g h l m) = did (put_put f g) h l m
 did_ahead kind f (fell z) = fell (z ∙ put_length f)
 
 -- an element's own two bytes pay for that record
-pub due_open : {s : List ℕ} {tag : ℕ} {need : Need} {end at : ℕ} {r : Due} → Dues s tag need end at r → {x e o : ℕ} → r ≡ Here x e → o ≤ 8 * at + 131072 → o + 4 ≤ 8 * x + 131072
-due_open u {x} {e} t l = omega (arith, (u.inside x e t).0)
+pub due_open : {s : List ℕ} {tag : ℕ} {need : Need} {end at : ℕ} {y : Option Header} → Dues s tag need end at (Ok y) → {x : Header} → y ≡ Some x → {o : ℕ} → o ≤ 8 * at + 131072 → o + 4 ≤ 8 * x.1 + 131072
+due_open u t l = omega (arith, due_low u t)
 
 -- the fixed start
 abbrev start : List ℕ
@@ -98,18 +96,12 @@ module _ {s : List ℕ} {a e i : ℕ} (w : Starting s a e i) where
       sym v ∙ w.comes
 
 -- by the header of the element
-module _ (s : List ℕ) (end at : ℕ) {h : Head} (k : h ≡ header s at end) where
-  pub ours_none : {f : Fault} {p : ℕ} → h ≡ No f p → false ≡ ours_at s end at
-  ours_none q = rw (sym k ∙ q) refl
+module _ (s : List ℕ) (end at : ℕ) where
+  pub ours_none : {e : Refusal} → Err e ≡ header s at end → false ≡ ours_at s end at
+  ours_none k = rw (sym k) refl
 
-  pub ours_some : {t a e : ℕ} {b : Bool} → h ≡ At t a e → b ≡ ours (slice a e s) → b ≡ ours_at s end at
-  ours_some q z = z ∙ rw (sym k ∙ q) refl
-
-  pub ours_order : {t a e : ℕ} → h ≡ At t a e → a ≤ e
-  ours_order q = omega (arith, (header_in s at end (sym k ∙ q)).1)
-
-  pub ours_inside : {t a e n : ℕ} → h ≡ At t a e → end ≤ n → e ≤ n
-  ours_inside q l = omega (arith, (header_in s at end (sym k ∙ q)).2)
+  pub ours_some : {x : Header} → Ok x ≡ header s at end → {b : Bool} → b ≡ ours (slice x.1 x.2 s) → b ≡ ours_at s end at
+  ours_some k z = z ∙ rw (sym k) refl
 
 -- neither path nor 73
 module _ {mine : Bool} (i j k : ℕ) where
@@ -123,35 +115,34 @@ module _ {mine : Bool} (i j k : ℕ) where
   unreached_other m = rw m refl
 
 module _ (mine : Bool) (i j k end n : ℕ) {t : Bool} (z : t ≡ unreached_by mine i j k) where
-  pub settled_fails : (o : ℕ) → t ≡ true → Stays o n end (settled mine i j k end n) (Fails Missing end)
-  settled_fails o e = record { is = λ a. rw (sym z ∙ e) (fell refl) }
+  pub settled_fails : (a : List ℕ) (o : ℕ) → t ≡ true → Did a a o n end (settled mine i j k end n) (refused Missing end)
+  settled_fails a o e = rw (sym z ∙ e) (fell refl)
 
-  pub settled_passes : (o : ℕ) → n ≤ end → o ≤ 8 * n + 131072 → t ≡ false → Stays o n end (settled mine i j k end n) (Took n o)
-  settled_passes o h l e = record { is = λ a. rw (sym z ∙ e) (did_none a o n end h l) }
+  pub settled_passes : (a : List ℕ) (o : ℕ) → n ≤ end → o ≤ 8 * n + 131072 → t ≡ false → Did a a o n end (settled mine i j k end n) (came n o)
+  settled_passes a o h l e = rw (sym z ∙ e) (did_none a o n end h l)
 
 -- a template behind its record
 pub template_headed : (s : List ℕ) (end at : ℕ) {a b c : List ℕ} {o q x : ℕ} {mine : Bool} {r : Part} → Put a b o q (record_bytes 0x0201 (x ∷ [])) → x ≡ pick mine 1 0 → mine ≡ ours_at s end at → Did b c q at end (from_name s mine end at) r → Did a c o at end (template s end at) r
 template_headed s end at f y z d = did_headed 0x0201 (pick (ours_at s end at) 1 0 ∷ []) (rw (y, z) at f) (rw z at d)
 
 -- an element of EF.DIR
-module _ (s : List ℕ) (end at : ℕ) {h : Head} (k : h ≡ header s at end) {t x e : ℕ} (q : h ≡ At t x e) where
-  pub item_template : {a b : List ℕ} {o : ℕ} {y : Part} → t ≡ 0x61 → Did a b o x e (template s e x) y → Did a b o at end (item s end at) y
-  item_template z d = element_here s (dir_body s) end at k q (did_as d (rw z (sym (by_places s at e x))))
+module _ (s : List ℕ) (end at : ℕ) {x : Header} (k : Ok x ≡ header s at end) where
+  pub item_template : {a b : List ℕ} {o : ℕ} {y : Part} → x.0 ≡ 0x61 → Did a b o x.1 x.2 (template s x.2 x.1) y → Did a b o at end (item s end at) y
+  item_template z d = element_here s (dir_body s) end at k (did_as d (rw z (sym (by_places s at x.2 x.1))))
 
-  pub head_flag : {o : ℕ} → o ≤ 8 * at + 131072 → o + 5 ≤ 8 * x + 131072
-  head_flag l = omega (arith, head_low s end at k q)
+  pub head_flag : {o : ℕ} → o ≤ 8 * at + 131072 → o + 5 ≤ 8 * x.1 + 131072
+  head_flag l = omega (arith, head_low s end at k)
 
--- another one, which does not begin as fill does
-module _ (s : List ℕ) (bytes : Bytes s) (end at : ℕ) {h : Head} (k : h ≡ header s at end) {t x e : ℕ} (q : h ≡ At t x e) where
-  pub item_other : {a b : List ℕ} {o : ℕ} {y : Part} → end ≤ length s → to_fill s end at ≡ true → (t ≡ 0x61 → ⊥) → Did a b o x e (sealed s 0x0211 [] t at x e) y → Did a b o at end (item s end at) y
-  item_other l m z d = element_here s (dir_body s) end at k q (did_as d (rw (dir_tag_lem, ne_eqb t 0x61 z) refl))
+  -- another one, which does not begin as fill does
+  pub item_other : Bytes s → {a b : List ℕ} {o : ℕ} {y : Part} → end ≤ length s → to_fill s end at ≡ true → (x.0 ≡ 0x61 → ⊥) → Did a b o x.1 x.2 (sealed s 0x0211 [] x.0 at x.1 x.2) y → Did a b o at end (item s end at) y
+  item_other bytes l m z d = element_here s (dir_body s) end at k (did_as d (rw (dir_tag_lem, ne_eqb x.0 0x61 z) refl))
     where
       go : (x y : Bool) → not (x || y) ≡ true → (not x && not y) ≡ true
       go true y e = e
       go false y e = e
 
-      dir_tag_lem : dir_tag t ≡ true
-      dir_tag_lem = rw (header_sound s at end bytes l (sym k ∙ q)).first (go (eqb (get_or s at 0) 0) (eqb (get_or s at 0) 255) (both_true (ltb at end) (not (eqb (get_or s at 0) 0 || eqb (get_or s at 0) 255)) m).1)
+      dir_tag_lem : dir_tag x.0 ≡ true
+      dir_tag_lem = rw (header_sound s at end bytes l (sym k)).first (go (eqb (get_or s at 0) 0) (eqb (get_or s at 0) 255) (both_true (ltb at end) (not (eqb (get_or s at 0) 0 || eqb (get_or s at 0) 255)) m).1)
 
 -- the loop over them: what was read and laid out so far, whatever was counted
 pub record Turning (s a b : List ℕ) (end at o n p : ℕ) : Type 0 where
@@ -165,7 +156,7 @@ pub turning_start : (s a : List ℕ) (end at o : ℕ) → at ≤ end → o ≤ 8
 turning_start s a end at o h l = record { count = 0; going = going_none (to_fill s) (λ _. item s) a end at o 0 h l; high = h; small = l; same = refl }
 
 module _ {s a b : List ℕ} {end at o n p : ℕ} (h : Turning s a b end at o n p) {t : Bool} (m : t ≡ to_fill s end n) where
-  pub turning_all : t ≡ false → Did a b o at end (items s end at) (Took n p)
+  pub turning_all : t ≡ false → Did a b o at end (items s end at) (came n p)
   turning_all z = going_all h.going (sym m ∙ z)
 
   pub turning_on : t ≡ true → to_fill s end n ≡ true
@@ -175,30 +166,20 @@ module _ {s a b : List ℕ} {end at o n p : ℕ} (h : Turning s a b end at o n p
     before : n < end
     before = ltb-true n end (both_true (ltb n end) (not (eqb (get_or s n 0) 0 || eqb (get_or s n 0) 255)) (sym m ∙ z)).0
 
-    pub turning_fails : {f : Fault} {x : ℕ} → w ≡ Fails f x → Did a c o at end (items s end at) (Fails f x)
-    turning_fails e = going_fails h.going (sym m ∙ z) before d e
+    pub turning_fails : {e : Refusal} → w ≡ Err e → Did a c o at end (items s end at) (Err e)
+    turning_fails e = going_fails h.going (sym m ∙ z) before (rw e at d)
 
-    module _ {r q : ℕ} (e : w ≡ Took r q) (fw : Forward n w) where
-      pub turning_less : end - r < end - n
-      turning_less = omega (arith, fw.is r q e, did_high d e)
+    module _ {r : Cursor} (e : w ≡ Ok r) (fw : Forward n w) where
+      pub turning_less : end - r.dump < end - n
+      turning_less = omega (arith, fw.is r e, did_high (rw e at d))
 
-      pub turning_next : Turning s a c end at o r q
+      pub turning_next : Turning s a c end at o r.dump r.book
       turning_next =
           let y = did_open (rw e at d) in
           record {
             count = h.count + length y.1;
-            going = going_step h.going (sym m ∙ z) before y.0 y.1 y.2 y.3 (fw.is r q e) (did_high d e) (did_small d e) refl;
-            high = did_high d e;
-            small = did_small d e;
-            same = did_same d ∙ h.same;
+            going = going_step h.going (sym m ∙ z) before y.0 y.1 y.2 y.3 (fw.is r e) (did_high (rw e at d)) (did_small (rw e at d)) refl;
+            high = did_high (rw e at d);
+            small = did_small (rw e at d);
+            same = did_same (rw e at d) ∙ h.same;
           }
-
--- the file
-module _ (s : List ℕ) {a b : List ℕ} {o at end : ℕ} {w : Part} (d : Did a b o at end (headed_items s end at) w) where
-  pub dir_fails : {f : Fault} {p : ℕ} → w ≡ Fails f p → Did a b o at end (dir s end at) (Fails f p)
-  unfolding dir
-  dir_fails z = did_fails d (λ n. fill s 0x0212 end n) z
-
-  pub dir_filled : {n q : ℕ} {c : List ℕ} {r : Part} → w ≡ Took n q → Did b c q n end (fill s 0x0212 end n) r → Did a c o at end (dir s end at) r
-  unfolding dir
-  dir_filled z g = did_then d z (λ m. fill s 0x0212 end m) g

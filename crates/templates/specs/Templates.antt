@@ -1,9 +1,7 @@
 -- Parts of a template that a function of the code reads: one after the other, as Layouts has them.
-use Rattle.std.specs.Prelude.{ℕ, ◌-◌, Bool, false, ◌&&◌, List, [], ◌∷◌, eqb}
+use Rattle.std.specs.Prelude.{ℕ, ◌-◌, Bool, false, ◌&&◌, List, [], ◌∷◌, eqb, Err, Ok}
 use Rattle.std.proofs.Math.Seq.{slice}
 use Rattle.elements.specs.declared.fault.Fault.TheVariants.{Missing}
-use Rattle.elements.specs.declared.answer.Head.{Head}
-use Rattle.elements.specs.declared.answer.Head.TheVariants.{At, No}
 use Rattle.elements.specs.Choice.{choose, pick}
 use Rattle.elements.specs.Header.{header}
 use Rattle.rules.specs.declared.table.Need.TheVariants.{Optional}
@@ -15,6 +13,7 @@ use Rattle.rules.specs.Objects.{path_from}
 use Rattle.rules.specs.Rulings.{ours, headed_by}
 use Rattle.rules.specs.Files.{to_fill}
 use Rattle.rules.specs.FileLayouts.{dir_body}
+use Rattle.elements.specs.Answer.{Head}
 
 -- "5 where a template of ours has neither path nor 73": it is ours, and neither moved the place from where its label ends, i, to where its path ends, j, and its 73, k
 abbrev pub unreached_by : Bool → ℕ → ℕ → ℕ → Bool
@@ -49,8 +48,8 @@ module _ (s : List ℕ) where
 
   -- whether the element at a place begins as our identifiers do
   abbrev pub ours_in : Head → Bool
-  ours_in (No f p) = false
-  ours_in (At t a e) = ours (slice a e s)
+  ours_in (Err r) = false
+  ours_in (Ok x) = ours (slice x.1 x.2 s)
 
   abbrev pub ours_at : ℕ → ℕ → Bool
   ours_at end at = ours_in (header s at end)

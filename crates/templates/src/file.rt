@@ -4,63 +4,64 @@ ghost use Rattle.objects.specs.Did.{Did, Forward, InContainer};
 ghost use Rattle.templates.specs.Templates.{item, items, headed_items};
 
 use crate::template::template;
-use elements::{Head, header};
+use elements::{Refusal, header};
 use files::{fill, goes_on};
-use objects::{Part, put_bare, sealed};
+use objects::{Cursor, put_bare, sealed};
 
 // An element of EF.DIR: a template, or another, which is sealed.
-fn item(s: &[u8], end: usize, at: usize, out: &mut [u8], o: usize) -> Part
-    requires { (to_fill s.now end at ≡ true) × InContainer s.now end at o }
-    ensures { Did out.old out.new o at end (item s.now end at) result × Forward at result }
+fn item(s: &[u8], end: usize, at: Cursor, out: &mut [u8]) -> Result<Cursor, Refusal>
+    requires { (to_fill s.now end at.dump ≡ true) × InContainer s.now end at.dump at.book }
+    ensures { Did out.old out.new at.book at.dump end (item s.now end at.dump) result × Forward at.dump result }
 {
-    match header(s, at, end) {
-        Head::No(f, p) => Part::Fails(f, p),
-        Head::At(t, a, e) => {
-            if t == 0x61 {
-                return template(s, e, a, out, o);
-            }
-            sealed(s, 0x0211, t, at, a, e, out, o)
-        }
+    let x = header(s, at.dump, end)?;
+    if x.0 == 0x61 {
+        return template(
+            s,
+            x.2,
+            Cursor {
+                dump: x.1,
+                book: at.book,
+            },
+            out,
+        );
     }
+    sealed(s, 0x0211, x, at, out)
 }
 
 // Its elements, up to its fill.
-fn items(s: &[u8], end: usize, at: usize, out: &mut [u8], o: usize) -> Part
-    requires { InContainer s.now end at o }
-    ensures { Did out.old out.new o at end (items s.now end at) result }
+fn items(s: &[u8], end: usize, from: Cursor, out: &mut [u8]) -> Result<Cursor, Refusal>
+    requires { InContainer s.now end from.dump from.book }
+    ensures { Did out.old out.new from.book from.dump end (items s.now end from.dump) result }
 {
-    let mut n = at;
-    let mut p = o;
-    while goes_on(s, end, n) {
-        match item(s, end, n, out, p) {
-            Part::Fails(f, x) => {
-                return Part::Fails(f, x);
-            }
-            Part::Took(m, t) => {
-                n = m;
-                p = t;
-            }
-        }
+    let mut at = from;
+    while goes_on(s, end, at.dump) {
+        at = item(s, end, at, out)?;
     }
-    Part::Took(n, p)
+    Ok(at)
 }
 
 // Its elements behind the record that says that it is there.
-fn headed_items(s: &[u8], end: usize, at: usize, out: &mut [u8], o: usize) -> Part
-    requires { (o + 4 ≤ 8 * at + 131072) × InContainer s.now end at o }
-    ensures { Did out.old out.new o at end (headed_items s.now end at) result }
+fn headed_items(s: &[u8], end: usize, at: Cursor, out: &mut [u8]) -> Result<Cursor, Refusal>
+    requires { (at.book + 4 ≤ 8 * at.dump + 131072) × InContainer s.now end at.dump at.book }
+    ensures { Did out.old out.new at.book at.dump end (headed_items s.now end at.dump) result }
 {
-    let q = put_bare(out, o, 0x0200);
-    items(s, end, at, out, q)
+    let book = put_bare(out, at.book, 0x0200);
+    items(
+        s,
+        end,
+        Cursor {
+            dump: at.dump,
+            book,
+        },
+        out,
+    )
 }
 
 // EF.DIR's file.
-pub fn dir(s: &[u8], end: usize, at: usize, out: &mut [u8], o: usize) -> Part
-    requires { (o + 4 ≤ 8 * at + 131072) × InContainer s.now end at o }
-    ensures { Did out.old out.new o at end (dir s.now end at) result }
+pub fn dir(s: &[u8], end: usize, at: Cursor, out: &mut [u8]) -> Result<Cursor, Refusal>
+    requires { (at.book + 4 ≤ 8 * at.dump + 131072) × InContainer s.now end at.dump at.book }
+    ensures { Did out.old out.new at.book at.dump end (dir s.now end at.dump) result }
 {
-    match headed_items(s, end, at, out, o) {
-        Part::Fails(f, p) => Part::Fails(f, p),
-        Part::Took(n, q) => fill(s, 0x0212, end, n, out, q),
-    }
+    let at = headed_items(s, end, at, out)?;
+    fill(s, 0x0212, end, at, out)
 }

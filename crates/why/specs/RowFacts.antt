@@ -1,5 +1,5 @@
 -- Each answer of `why` and its fact, of a row of the list.
-use Rattle.std.specs.Prelude.{ℕ, zero, suc, ◌≤◌, ◌≡◌, ◌↔◌, ◌⊎◌, Bool, true, false, length, eqb}
+use Rattle.std.specs.Prelude.{ℕ, zero, suc, ◌≤◌, ◌≡◌, ◌↔◌, ◌⊎◌, Bool, true, false, length, eqb, Ok}
 use Rattle.std.proofs.Math.Path.{refl}
 use Rattle.std.proofs.Common.{sym, ap, ◌∙◌, inl, inr, arith}
 use mathlib.Core.List.{List, [], ◌∷◌, Memᴰ}
@@ -16,10 +16,10 @@ use Rattle.cards.proofs.WriteLaws.{records_of_lem}
 use Rattle.links.specs.Links.{Held, held, Object, objects_of, id_kind, found, first_of, Reply, by, missing, Row, links, Chosen, nobody, chosen, object_at, States}
 use Rattle.links.specs.Finding.{id_in}
 use Rattle.links.proofs.AnswerLaws.{rows_answered, rows_stated}
-use Rattle.why.specs.declared.answer.Why.{Why}
+use Rattle.elements.specs.Answer.{refused}
 use Rattle.why.specs.declared.answer.Why.TheVariants as answer
 use Rattle.why.specs.Why.{no_row, the_row, row_at, value_in, Reason, reason_for, because, no_such, why}
-use Rattle.why.specs.Whys.{reason_told, why_told, whying, WhyTold}
+use Rattle.why.specs.Whys.{Reasoned, reason_told, why_told, whying, WhyTold}
 use Rattle.why.specs.WhyFacts.{Fact, is_met, is_no_object, is_elsewhere, is_nowhere, missing_fact, exactly}
 use Rattle.why.specs.OffsetLaws.{value_there, laid}
 
@@ -45,10 +45,10 @@ stated_value rs link i p x w =
     rw (w.numbered, l.are) (value_there l.at l.rest p w.kind x (rw l.are at w.holds))
 
 -- an answer's fact holds, of a row of this link, value and reply; a record is shown by its offset and kind
-pub record Says (os : List Object) (link : ℕ) (x : List ℕ) (reply : Reply) (r : Why) : Type 0 where
+pub record Says (os : List Object) (link : ℕ) (x : List ℕ) (reply : Reply) (r : Reasoned) : Type 0 where
   pub reason : Reason
   pub fact : Fact os link x reply reason
-  pub shown : r ≡ reason_told reason
+  pub shown : r ≡ Ok (reason_told reason)
 
 module _ (rs : List Rec) (n : ℕ) (r : Row) (e : row_at (links rs) n ≡ the_row r) where
   on_list : Memᴰ r (links rs)
@@ -74,11 +74,11 @@ module _ (rs : List Rec) (n : ℕ) (r : Row) (e : row_at (links rs) n ≡ the_ro
   value = rows_stated rs r on_list
 
   -- each answer is given exactly when its fact holds
-  pub row_told : (q : Why) → (q ≡ why_told (why rs n)) ↔ Says (objects_of rs) r.link value.0 r.reply q
+  pub row_told : (q : Reasoned) → (q ≡ why_told (why rs n)) ↔ Says (objects_of rs) r.link value.0 r.reply q
   row_told q =
       let a = answers value.0 value.1 in (
         (λ e. record { reason = reason_for (objects_of rs) r.link value.0 r.reply; fact = fact value.0 value.1 r.reply refl; shown = e ∙ ap why_told a }),
-        (λ s. s.shown ∙ ap (λ (y : Reason). reason_told y) (sym (exactly rs r.link value.0 s.fact)) ∙ ap why_told (sym a)),
+        (λ s. s.shown ∙ ap (λ (y : Reason). Ok (reason_told y)) (sym (exactly rs r.link value.0 s.fact)) ∙ ap why_told (sym a)),
       )
 
 -- what was found is among the records
@@ -99,13 +99,13 @@ id_held os j {h} e = go (object_at os j) refl e
     go (chosen o) q z = (o, q, first_held (id_kind o.entry) o.records z)
 
 -- an offset shown is a record of that kind with that value
-pub shown_bears : {os : List Object} {link : ℕ} {x : List ℕ} {reply : Reply} {r : Why} {p k : ℕ} → Says os link x reply r → (r ≡ answer.Met p k) ⊎ (r ≡ answer.Elsewhere p k) → (i : ℕ) × (o : Object) × (object_at os i ≡ chosen o) × Memᴰ (held p k x) o.records
+pub shown_bears : {os : List Object} {link : ℕ} {x : List ℕ} {reply : Reply} {r : Reasoned} {p k : ℕ} → Says os link x reply r → (r ≡ Ok (answer.Met p k)) ⊎ (r ≡ Ok (answer.Elsewhere p k)) → (i : ℕ) × (o : Object) × (object_at os i ≡ chosen o) × Memᴰ (held p k x) o.records
 shown_bears {os} {link} {x} {r = r} {p} {k} s e = go s.fact s.shown e
   where
-    go : {reply : Reply} {q : Reason} → Fact os link x reply q → r ≡ reason_told q → (r ≡ answer.Met p k) ⊎ (r ≡ answer.Elsewhere p k) → (i : ℕ) × (o : Object) × (object_at os i ≡ chosen o) × Memᴰ (held p k x) o.records
+    go : {reply : Reply} {q : Reason} → Fact os link x reply q → r ≡ Ok (reason_told q) → (r ≡ Ok (answer.Met p k)) ⊎ (r ≡ Ok (answer.Elsewhere p k)) → (i : ℕ) × (o : Object) × (object_at os i ≡ chosen o) × Memᴰ (held p k x) o.records
     go (is_met {j = j} {h = h} i v) z (inl u) =
         let w = id_held os j i in
-        let y : answer.Met h.at h.kind ≡ answer.Met p k = sym z ∙ u in
+        let y : Ok (answer.Met h.at h.kind) ≡ Ok (answer.Met p k) = sym z ∙ u in
         let a : h.at ≡ p = cc in
         let c : h.kind ≡ k = cc in
         let m : h ≡ held p k x = rw (← a, ← c, ← v) refl in
@@ -115,7 +115,7 @@ shown_bears {os} {link} {x} {r = r} {p} {k} s e = go s.fact s.shown e
     go (is_no_object n) z (inr u) = absurd (let y : ◌≡◌ {A = ℕ} 0 1 = cc in omega arith)
     go (is_elsewhere c w l) z (inl u) = absurd (let y : ◌≡◌ {A = ℕ} 0 1 = cc in omega arith)
     go (is_elsewhere {h = h} c w l) z (inr u) =
-        let y : answer.Elsewhere h.at h.kind ≡ answer.Elsewhere p k = sym z ∙ u in
+        let y : Ok (answer.Elsewhere h.at h.kind) ≡ Ok (answer.Elsewhere p k) = sym z ∙ u in
         let a : h.at ≡ p = cc in
         let b : h.kind ≡ k = cc in
         let m : h ≡ held p k x = rw (← a, ← b, ← w.value) refl in
@@ -132,15 +132,15 @@ module _ (x : Card) (meets : Meets x) (bytes : Bytes (dump_of x)) (n : ℕ) wher
   unfolding whying
   answered = rw (read_then_written (record { bytes = bytes; records = book_of x; reads = reads; book = refl }), records_of_lem (dump_of x) (book_of x) bytes reads) refl
 
-  told : (r : Why) → WhyTold (encode (book_of x)) n r ↔ (r ≡ why_told (why (book_of x) n))
+  told : (r : Reasoned) → WhyTold (encode (book_of x)) n r ↔ (r ≡ why_told (why (book_of x) n))
   told r = ((λ t. t.is ∙ answered), (λ e. record { is = e ∙ sym answered }))
 
-  pub exactly_when : (w : Row) (there : row_at (links (book_of x)) n ≡ the_row w) (r : Why) → WhyTold (encode (book_of x)) n r ↔ Says (objects_of (book_of x)) w.link (value (book_of x) n w there).0 w.reply r
+  pub exactly_when : (w : Row) (there : row_at (links (book_of x)) n ≡ the_row w) (r : Reasoned) → WhyTold (encode (book_of x)) n r ↔ Says (objects_of (book_of x)) w.link (value (book_of x) n w there).0 w.reply r
   exactly_when w there r = let s = row_told (book_of x) n w there r in ((λ t. s.0 ((told r).0 t)), (λ y. (told r).1 (s.1 y)))
 
-  pub no_such_row : length (links (book_of x)) ≤ n → (r : Why) → WhyTold (encode (book_of x)) n r ↔ (r ≡ answer.Refused NotThere 0)
+  pub no_such_row : length (links (book_of x)) ≤ n → (r : Reasoned) → WhyTold (encode (book_of x)) n r ↔ (r ≡ refused NotThere 0)
   no_such_row h r = let e = ap why_told (why_past (book_of x) n h) in ((λ t. (told r).0 t ∙ e), (λ z. (told r).1 (z ∙ sym e)))
 
-pub no_book_lem : {b : List ℕ} → Bytes b → (AcceptedBook b → ⊥) → (n : ℕ) (r : Why) → WhyTold b n r ↔ (r ≡ answer.Refused NoDump 0)
+pub no_book_lem : {b : List ℕ} → Bytes b → (AcceptedBook b → ⊥) → (n : ℕ) (r : Reasoned) → WhyTold b n r ↔ (r ≡ refused NoDump 0)
 unfolding whying
-no_book_lem {b} bytes none n r = let e : whying b n ≡ answer.Refused NoDump 0 = rw (refused_if_none bytes none) refl in ((λ t. t.is ∙ e), (λ z. record { is = z ∙ sym e }))
+no_book_lem {b} bytes none n r = let e : whying b n ≡ refused NoDump 0 = rw (refused_if_none bytes none) refl in ((λ t. t.is ∙ e), (λ z. record { is = z ∙ sym e }))

@@ -1,4 +1,4 @@
+pub mod BehindLaws
 pub mod MakeEntryLaws
-pub mod MakeLinearLaws
 pub mod MakeTemplateLaws
 pub mod RenderLaws

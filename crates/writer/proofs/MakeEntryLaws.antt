@@ -7,14 +7,12 @@ use lib.ListN.{get_or, drop_of_length-le}
 use lib.Seq.{slice, slice_empty, length-slice}
 use borrow.Author.Tests.{lt-ltb, le-ltb, ne_eqb}
 use Rattle.elements.specs.Length.{wrap}
-use Rattle.makers.specs.declared.made.Made.{Made}
-use Rattle.makers.specs.declared.made.Made.TheVariants.{Took, Long}
-use Rattle.rules.specs.Render.{Rendered, gives, ◌next◌, within, r_fill, r_objects, r_inside, r_entry_of, r_entry, r_directory}
+use Rattle.rules.specs.Render.{gives, ◌next◌, within, r_fill, r_objects, r_inside, r_entry_of, r_entry, r_directory}
 use Rattle.rules.specs.Book.{records_from, Ends}
 use Rattle.rules.specs.BookLaws.{name_path}
-use Rattle.makers.specs.Making.{Makes, Onward}
+use Rattle.makers.specs.Making.{Answer, Makes}
 use Rattle.writer.specs.MakingFiles.{Tail}
-use Rattle.makers.specs.MadeLaws.{makes_as, makes_behind, made_steps, steps_then, from_some, onward_one}
+use Rattle.makers.specs.MadeLaws.{makes_as, makes_behind, from_some}
 
 -- an entry's own bytes
 pub tail_none : (i e : ℕ) → e < i + 6 → Tail i e e
@@ -23,20 +21,8 @@ tail_none i e h = record { is = λ b l. drop_of_length-le (slice (i + 4) e b) {i
 pub tail_some : (i e : ℕ) → i + 6 ≤ e → Tail i e (i + 6)
 tail_some i e h = record { is = λ b l. name_path b i e }
 
--- what is read behind the record at i takes that record
-pub onward_behind : {b a c : List ℕ} {i e o : ℕ} {w : Rendered} {r : Made} → Ends b i e → Makes b a c e o w r → Onward b i r
-onward_behind h m = onward_one h (λ n q z. made_steps m z)
-
--- what does not fit leaves no place to go on from
-pub onward_none : (b : List ℕ) (i : ℕ) → Onward b i Long
-onward_none b i = record { is = λ n q z. absurd (let y : ◌≡◌ {A = ℕ} 0 1 = cc in omega arith) }
-
--- two parts behind the record at i take it too
-pub onward_both : {b a c d : List ℕ} {i e o n q : ℕ} {w v : Rendered} {r s : Made} → Ends b i e → Makes b a c e o w r → r ≡ Took n q → Makes b c d n q v s → Onward b i s
-onward_both h m z k = onward_one h (λ _ _ y. steps_then (made_steps m z) (made_steps k y))
-
 -- inside an entry
-module _ {b a c : List ℕ} {i e o : ℕ} (h : Ends b i e) {x : ℕ} (t : x ≡ get_or (slice (i + 4) e b) 1 0) {r : Made} where
+module _ {b a c : List ℕ} {i e o : ℕ} (h : Ends b i e) {x : ℕ} (t : x ≡ get_or (slice (i + 4) e b) 1 0) {r : Answer} where
   pub inside_path : {p : ℕ} → x ≡ 0 → Tail i e p → Makes b a c e o (gives (wrap 0x30 (wrap 0x04 (slice p e b))) (records_from b e)) r → Makes b a c i o (r_inside (records_from b i)) r
   unfolding r_inside
   inside_path {p} z f m = from_some _ h (makes_as m (rw (sym t ∙ z, f.is b h.high) refl))
@@ -46,7 +32,7 @@ module _ {b a c : List ℕ} {i e o : ℕ} (h : Ends b i e) {x : ℕ} (t : x ≡ 
   inside_objects z m = from_some _ h (makes_as m (rw (← t, ne_eqb x 0 z) refl))
 
 -- an entry
-module _ {b a c : List ℕ} {i e o : ℕ} (h : Ends b i e) {x : ℕ} (t : x ≡ get_or (slice (i + 4) e b) 1 0) {r : Made} where
+module _ {b a c : List ℕ} {i e o : ℕ} (h : Ends b i e) {x : ℕ} (t : x ≡ get_or (slice (i + 4) e b) 1 0) {r : Answer} where
   pub entry_known : {y : ℕ} → x < 2 → y ≡ get_or (slice (i + 4) e b) 0 0 → Makes b a c i o (within y r_inside (records_from b i)) r → Makes b a c i o (r_entry (records_from b i)) r
   unfolding r_entry r_entry_of
   entry_known z v m = makes_as (rw v at m) (rw (h.is, ← t, lt-ltb x 2 z) refl)
@@ -56,6 +42,6 @@ module _ {b a c : List ℕ} {i e o : ℕ} (h : Ends b i e) {x : ℕ} (t : x ≡ 
   entry_kept {p} z f m = makes_as (makes_behind h m) (rw (h.is, ← t, le-ltb x 2 z, f.is b h.high) refl)
 
 -- inside a directory file
-pub directory_made : {b a c : List ℕ} {i e o : ℕ} {r : Made} → Ends b i e → Makes b a c e o ((r_objects next r_fill 0x0107) (records_from b e)) r → Makes b a c i o (r_directory (records_from b i)) r
+pub directory_made : {b a c : List ℕ} {i e o : ℕ} {r : Answer} → Ends b i e → Makes b a c e o ((r_objects next r_fill 0x0107) (records_from b e)) r → Makes b a c i o (r_directory (records_from b i)) r
 unfolding r_directory r_objects
 directory_made h m = rw h.is (makes_behind h m)

@@ -1,4 +1,4 @@
--- Parts of EF.DIR and of the whole dump that a function of the code makes: one after the other, as Layouts and Render have them.
+-- Parts of EF.DIR and of the whole dump that a function of the code makes, one after the other, as Layouts has them.
 use Rattle.std.specs.Prelude.{ℕ, List, [], ◌∷◌}
 use Rattle.rules.specs.declared.table.Sequence.TheVariants.{OdfPath, InfoPath}
 use Rattle.rules.specs.Files.{names_of}

@@ -5,9 +5,10 @@ ghost use Rattle.makers.specs.Making.{Making, Makes, Onward};
 ghost use Rattle.writer.specs.MakingFiles.{Tail};
 
 use makers::{
-    Made, closed, make_fill, make_objects, make_part, make_sequence, opened, part_element,
+    Made, TooLong, make_each, make_fill, make_objects, make_part, make_sequence, part_element,
+    within,
 };
-use rules::{Sequence, byte_at, is_next, record_end};
+use rules::{Sequence, byte_at, record_end};
 
 // Where an entry's own bytes start, behind its tag and the byte that says what it is.
 fn tail_of(i: usize, e: usize) -> usize
@@ -20,83 +21,81 @@ fn tail_of(i: usize, e: usize) -> usize
     i + 6
 }
 
-// Inside an entry's tag: a Path or objects, by the byte behind the tag. The entry's record is at i.
-fn make_inside(b: &[u8], i: usize, e: usize, out: &mut [u8], o: usize) -> Made
-    requires { Ends b.now i e × Making b.now i out.old o }
-    ensures { Makes b.now out.old out.new i o (r_inside (records_from b.now i)) result × Onward b.now i result }
+// Inside an entry's tag: a Path or objects, by the byte behind the tag. The entry's record ends at e.
+fn make_inside(b: &[u8], made: Made, e: usize, out: &mut [u8]) -> Result<Made, TooLong>
+    requires { Ends b.now made.next e × Making b.now made.next out.old made.end }
+    ensures { Makes b.now out.old out.new made.next made.end (r_inside (records_from b.now made.next)) result × Onward b.now made.next result }
 {
-    if byte_at(b, i + 4, e, 1) == 0 {
-        let made = part_element(b, tail_of(i, e), e, 0x04, out, opened(out.len(), o, 2));
-        return closed(out, o, 0x30, made);
+    let behind = Made { next: e, ..made };
+    if byte_at(b, made.next + 4, e, 1) == 0 {
+        let p = tail_of(made.next, e);
+        return within(
+            behind,
+            0x30,
+            out,
+            |made, out| part_element(b, made, p, e, 0x04, out),
+        );
     }
-    let made = make_objects(b, e, out, opened(out.len(), o, 2));
-    closed(out, o, 0xa0, made)
+    within(behind, 0xa0, out, |made, out| make_objects(b, made, out))
 }
 
 // An entry of EF.OD.
-fn make_entry(b: &[u8], i: usize, out: &mut [u8], o: usize) -> Made
-    requires { (i + 4 ≤ length b.now) × Making b.now i out.old o }
-    ensures { Makes b.now out.old out.new i o (r_entry (records_from b.now i)) result × Onward b.now i result }
+fn make_entry(b: &[u8], made: Made, out: &mut [u8]) -> Result<Made, TooLong>
+    requires { (made.next + 4 ≤ length b.now) × Making b.now made.next out.old made.end }
+    ensures { Makes b.now out.old out.new made.next made.end (r_entry (records_from b.now made.next)) result × Onward b.now made.next result }
 {
-    let e = record_end(b, i);
-    if byte_at(b, i + 4, e, 1) < 2 {
-        let made = make_inside(b, i, e, out, opened(out.len(), o, 2));
-        return closed(out, o, byte_at(b, i + 4, e, 0), made);
+    let e = record_end(b, made.next);
+    if byte_at(b, made.next + 4, e, 1) < 2 {
+        let tag = byte_at(b, made.next + 4, e, 0);
+        return within(made, tag, out, |made, out| make_inside(b, made, e, out));
     }
-    make_part(b, tail_of(i, e), e, out, o)
+    make_part(b, Made { next: e, ..made }, tail_of(made.next, e), e, out)
 }
 
 // Entries, as long as the next record is one.
-fn make_entries(b: &[u8], i: usize, out: &mut [u8], o: usize) -> Made
-    requires { Making b.now i out.old o }
-    ensures { Makes b.now out.old out.new i o (r_all (0x0110 ∷ []) r_entry (records_from b.now i)) result }
+fn make_entries(b: &[u8], made: Made, out: &mut [u8]) -> Result<Made, TooLong>
+    requires { Making b.now made.next out.old made.end }
+    ensures { Makes b.now out.old out.new made.next made.end (r_all (0x0110 ∷ []) r_entry (records_from b.now made.next)) result }
 {
-    let mut j = i;
-    let mut p = o;
-    while is_next(b, j, 0x0110) {
-        match make_entry(b, j, out, p) {
-            Made::Long => {
-                return Made::Long;
-            }
-            Made::Took(n, q) => {
-                j = n;
-                p = q;
-            }
-        }
-    }
-    Made::Took(j, p)
+    make_each(
+        b,
+        made,
+        &[0x0110],
+        out,
+        |made, out| make_entry(b, made, out),
+    )
 }
 
 // EF.OD's file.
-pub fn make_od(b: &[u8], i: usize, out: &mut [u8], o: usize) -> Made
-    requires { Making b.now i out.old o }
-    ensures { Makes b.now out.old out.new i o (r_od (records_from b.now i)) result }
+pub fn make_od(b: &[u8], made: Made, out: &mut [u8]) -> Result<Made, TooLong>
+    requires { Making b.now made.next out.old made.end }
+    ensures { Makes b.now out.old out.new made.next made.end (r_od (records_from b.now made.next)) result }
 {
-    match make_entries(b, i, out, o) {
-        Made::Long => Made::Long,
-        Made::Took(n, q) => make_fill(b, n, 0x0107, out, q),
-    }
+    let made = make_entries(b, made, out)?;
+    make_fill(b, made, 0x0107, out)
 }
 
 // CIAInfo's file.
-pub fn make_cia(b: &[u8], i: usize, out: &mut [u8], o: usize) -> Made
-    requires { Making b.now i out.old o }
-    ensures { Makes b.now out.old out.new i o (r_cia (records_from b.now i)) result }
+pub fn make_cia(b: &[u8], made: Made, out: &mut [u8]) -> Result<Made, TooLong>
+    requires { Making b.now made.next out.old made.end }
+    ensures { Makes b.now out.old out.new made.next made.end (r_cia (records_from b.now made.next)) result }
 {
-    let made = make_sequence(b, i, Sequence::Info, out, opened(out.len(), o, 2));
-    match closed(out, o, 0x30, made) {
-        Made::Long => Made::Long,
-        Made::Took(n, q) => make_fill(b, n, 0x0108, out, q),
-    }
+    let made = within(
+        made,
+        0x30,
+        out,
+        |made, out| make_sequence(b, made, Sequence::Info, out),
+    )?;
+    make_fill(b, made, 0x0108, out)
 }
 
-// Inside a directory file or a record of one, whose 0118 or 011A is at i: objects, then fill.
-pub fn make_directory(b: &[u8], i: usize, out: &mut [u8], o: usize) -> Made
-    requires { (i + 4 ≤ length b.now) × Making b.now i out.old o }
-    ensures { Makes b.now out.old out.new i o (r_directory (records_from b.now i)) result × Onward b.now i result }
+// Inside a directory file or a record of one, whose 0118 or 011A is next: objects, then fill.
+pub fn make_directory(b: &[u8], made: Made, out: &mut [u8]) -> Result<Made, TooLong>
+    requires { (made.next + 4 ≤ length b.now) × Making b.now made.next out.old made.end }
+    ensures { Makes b.now out.old out.new made.next made.end (r_directory (records_from b.now made.next)) result × Onward b.now made.next result }
 {
-    match make_objects(b, record_end(b, i), out, o) {
-        Made::Long => Made::Long,
-        Made::Took(n, q) => make_fill(b, n, 0x0107, out, q),
-    }
+    let next = record_end(b, made.next);
+    let behind = Made { next, ..made };
+    let made = make_objects(b, behind, out)?;
+    make_fill(b, made, 0x0107, out)
 }

@@ -1,142 +1,115 @@
-ghost use Rattle.std.specs.Prelude.{◌≡◌, ◌+◌, ◌≤◌, length};
+ghost use Rattle.std.specs.Prelude.{◌+◌, ◌≤◌, length};
 ghost use Rattle.rules.specs.Render.{within, r_dir};
 ghost use Rattle.rules.specs.Book.{records_from};
-ghost use Rattle.makers.specs.Making.{Making, Makes, Onward, next_among};
-ghost use Rattle.writer.specs.Composed.{both_paths, with_set, r_discretionary, due_discretionary, inside_template, r_template, item_kinds, r_item, r_items};
+ghost use Rattle.makers.specs.Making.{Making, Makes, Onward};
+ghost use Rattle.writer.specs.Composed.{both_paths, with_set, r_discretionary, due_discretionary, inside_template, r_template, r_item, r_items};
 
 use makers::{
-    Made, closed, make_due_path, make_fill, make_keep, make_part, make_rest_in, make_rows, opened,
+    Made, TooLong, make_due_path, make_each, make_fill, make_keep, make_part, make_rest_in,
+    make_rows, within,
 };
 use rules::{Sequence, is_next, record_end};
 
 // providerId and both Paths.
-fn both_paths(b: &[u8], i: usize, out: &mut [u8], o: usize) -> Made
-    requires { Making b.now i out.old o }
-    ensures { Makes b.now out.old out.new i o (both_paths (records_from b.now i)) result }
+fn both_paths(b: &[u8], made: Made, out: &mut [u8]) -> Result<Made, TooLong>
+    requires { Making b.now made.next out.old made.end }
+    ensures { Makes b.now out.old out.new made.next made.end (both_paths (records_from b.now made.next)) result }
 {
-    match make_keep(b, i, 0x0206, out, o) {
-        Made::Long => Made::Long,
-        Made::Took(n, q) => match make_due_path(b, n, Sequence::OdfPath, 0x30, out, q) {
-            Made::Long => Made::Long,
-            Made::Took(m, t) => make_due_path(b, m, Sequence::InfoPath, 0xa0, out, t),
-        },
-    }
+    let made = make_keep(b, made, 0x0206, out)?;
+    let made = make_due_path(b, made, Sequence::OdfPath, 0x30, out)?;
+    make_due_path(b, made, Sequence::InfoPath, 0xa0, out)
 }
 
 // Then aid and the SET.
-fn with_set(b: &[u8], i: usize, out: &mut [u8], o: usize) -> Made
-    requires { Making b.now i out.old o }
-    ensures { Makes b.now out.old out.new i o (with_set (records_from b.now i)) result }
+fn with_set(b: &[u8], made: Made, out: &mut [u8]) -> Result<Made, TooLong>
+    requires { Making b.now made.next out.old made.end }
+    ensures { Makes b.now out.old out.new made.next made.end (with_set (records_from b.now made.next)) result }
 {
-    match both_paths(b, i, out, o) {
-        Made::Long => Made::Long,
-        Made::Took(n, q) => match make_rows(b, n, Sequence::Discretionary, out, q) {
-            Made::Long => Made::Long,
-            Made::Took(m, t) => make_keep(b, m, 0x020e, out, t),
-        },
-    }
+    let made = both_paths(b, made, out)?;
+    let made = make_rows(b, made, Sequence::Discretionary, out)?;
+    make_keep(b, made, 0x020e, out)
 }
 
 // The contents of a 73.
-fn make_discretionary(b: &[u8], i: usize, out: &mut [u8], o: usize) -> Made
-    requires { Making b.now i out.old o }
-    ensures { Makes b.now out.old out.new i o (r_discretionary (records_from b.now i)) result }
+fn make_discretionary(b: &[u8], made: Made, out: &mut [u8]) -> Result<Made, TooLong>
+    requires { Making b.now made.next out.old made.end }
+    ensures { Makes b.now out.old out.new made.next made.end (r_discretionary (records_from b.now made.next)) result }
 {
-    match with_set(b, i, out, o) {
-        Made::Long => Made::Long,
-        Made::Took(n, q) => make_rest_in(b, n, Sequence::Discretionary, out, q),
-    }
+    let made = with_set(b, made, out)?;
+    make_rest_in(b, made, Sequence::Discretionary, out)
 }
 
 // A 73, if the next record is the one in front of it.
-fn due_discretionary(b: &[u8], i: usize, out: &mut [u8], o: usize) -> Made
-    requires { Making b.now i out.old o }
-    ensures { Makes b.now out.old out.new i o (due_discretionary (records_from b.now i)) result }
+fn due_discretionary(b: &[u8], made: Made, out: &mut [u8]) -> Result<Made, TooLong>
+    requires { Making b.now made.next out.old made.end }
+    ensures { Makes b.now out.old out.new made.next made.end (due_discretionary (records_from b.now made.next)) result }
 {
-    if is_next(b, i, 0x0205) {
-        let e = record_end(b, i);
-        let made = make_discretionary(b, e, out, opened(out.len(), o, 2));
-        return closed(out, o, 0x73, made);
+    if is_next(b, made.next, 0x0205) {
+        let next = record_end(b, made.next);
+        let contents = Made { next, ..made };
+        return within(
+            contents,
+            0x73,
+            out,
+            |made, out| make_discretionary(b, made, out),
+        );
     }
-    Made::Took(i, o)
+    Ok(made)
 }
 
 // "identifier 4F .., label 50?, path 51? .., 73?, rest".
-fn inside_template(b: &[u8], i: usize, out: &mut [u8], o: usize) -> Made
-    requires { Making b.now i out.old o }
-    ensures { Makes b.now out.old out.new i o (inside_template (records_from b.now i)) result }
+fn inside_template(b: &[u8], made: Made, out: &mut [u8]) -> Result<Made, TooLong>
+    requires { Making b.now made.next out.old made.end }
+    ensures { Makes b.now out.old out.new made.next made.end (inside_template (records_from b.now made.next)) result }
 {
-    match make_rows(b, i, Sequence::Template, out, o) {
-        Made::Long => Made::Long,
-        Made::Took(n, q) => match due_discretionary(b, n, out, q) {
-            Made::Long => Made::Long,
-            Made::Took(m, t) => make_rest_in(b, m, Sequence::Template, out, t),
-        },
-    }
+    let made = make_rows(b, made, Sequence::Template, out)?;
+    let made = due_discretionary(b, made, out)?;
+    make_rest_in(b, made, Sequence::Template, out)
 }
 
-// An application template: its 0201 is at i.
-fn make_template(b: &[u8], i: usize, out: &mut [u8], o: usize) -> Made
-    requires { (i + 4 ≤ length b.now) × Making b.now i out.old o }
-    ensures { Makes b.now out.old out.new i o (within 0x61 r_template (records_from b.now i)) result × Onward b.now i result }
+// An application template: its 0201 is next.
+fn make_template(b: &[u8], made: Made, out: &mut [u8]) -> Result<Made, TooLong>
+    requires { (made.next + 4 ≤ length b.now) × Making b.now made.next out.old made.end }
+    ensures { Makes b.now out.old out.new made.next made.end (within 0x61 r_template (records_from b.now made.next)) result × Onward b.now made.next result }
 {
-    let e = record_end(b, i);
-    let made = inside_template(b, e, out, opened(out.len(), o, 2));
-    closed(out, o, 0x61, made)
+    let next = record_end(b, made.next);
+    let behind = Made { next, ..made };
+    within(behind, 0x61, out, |made, out| inside_template(b, made, out))
 }
 
 // A template, or "another element of the file", which was sealed.
-fn make_item(b: &[u8], i: usize, out: &mut [u8], o: usize) -> Made
-    requires { (i + 4 ≤ length b.now) × Making b.now i out.old o }
-    ensures { Makes b.now out.old out.new i o (r_item (records_from b.now i)) result × Onward b.now i result }
+fn make_item(b: &[u8], made: Made, out: &mut [u8]) -> Result<Made, TooLong>
+    requires { (made.next + 4 ≤ length b.now) × Making b.now made.next out.old made.end }
+    ensures { Makes b.now out.old out.new made.next made.end (r_item (records_from b.now made.next)) result × Onward b.now made.next result }
 {
-    if is_next(b, i, 0x0201) {
-        return make_template(b, i, out, o);
+    if is_next(b, made.next, 0x0201) {
+        return make_template(b, made, out);
     }
-    let e = record_end(b, i);
-    make_part(b, i + 4, e, out, o)
-}
-
-// Whether the next record starts an element of EF.DIR.
-fn is_item(b: &[u8], i: usize) -> bool
-    requires { (i ≤ length b.now) × (length b.now ≤ 131072) }
-    ensures { result ≡ next_among item_kinds (records_from b.now i) }
-{
-    if is_next(b, i, 0x0201) {
-        return true;
-    }
-    is_next(b, i, 0x0211)
+    let e = record_end(b, made.next);
+    make_part(b, Made { next: e, ..made }, made.next + 4, e, out)
 }
 
 // Elements, as long as the next record starts one.
-fn make_items(b: &[u8], i: usize, out: &mut [u8], o: usize) -> Made
-    requires { Making b.now i out.old o }
-    ensures { Makes b.now out.old out.new i o (r_items (records_from b.now i)) result }
+fn make_items(b: &[u8], made: Made, out: &mut [u8]) -> Result<Made, TooLong>
+    requires { Making b.now made.next out.old made.end }
+    ensures { Makes b.now out.old out.new made.next made.end (r_items (records_from b.now made.next)) result }
 {
-    let mut j = i;
-    let mut p = o;
-    while is_item(b, j) {
-        match make_item(b, j, out, p) {
-            Made::Long => {
-                return Made::Long;
-            }
-            Made::Took(n, q) => {
-                j = n;
-                p = q;
-            }
-        }
-    }
-    Made::Took(j, p)
+    make_each(
+        b,
+        made,
+        &[0x0201, 0x0211],
+        out,
+        |made, out| make_item(b, made, out),
+    )
 }
 
-// EF.DIR's file: its 0200 is at i.
-pub fn make_dir(b: &[u8], i: usize, out: &mut [u8], o: usize) -> Made
-    requires { (i + 4 ≤ length b.now) × Making b.now i out.old o }
-    ensures { Makes b.now out.old out.new i o (r_dir (records_from b.now i)) result }
+// EF.DIR's file: its 0200 is next.
+pub fn make_dir(b: &[u8], made: Made, out: &mut [u8]) -> Result<Made, TooLong>
+    requires { (made.next + 4 ≤ length b.now) × Making b.now made.next out.old made.end }
+    ensures { Makes b.now out.old out.new made.next made.end (r_dir (records_from b.now made.next)) result }
 {
-    let e = record_end(b, i);
-    match make_items(b, e, out, o) {
-        Made::Long => Made::Long,
-        Made::Took(n, q) => make_fill(b, n, 0x0212, out, q),
-    }
+    let next = record_end(b, made.next);
+    let behind = Made { next, ..made };
+    let made = make_items(b, behind, out)?;
+    make_fill(b, made, 0x0212, out)
 }

@@ -11,10 +11,10 @@ use borrow.Author.Rules.{rules}
 use Rattle.elements.specs.Bits.{weigh, bits_of}
 use Rattle.elements.specs.Choice.{pick}
 use Rattle.elements.specs.declared.fault.Fault.TheVariants.{BadBits, TrailingBits, ManyBits}
-use Rattle.elements.specs.declared.answer.Value.{Value}
-use Rattle.elements.specs.declared.answer.Value.TheVariants.{Of, Wrong}
 use Rattle.elements.proofs.Auto.{tests}
 use Rattle.elements.proofs.bits.bits_of.Goals as goal
+use Rattle.elements.specs.Answer.{Value, of}
+use Rattle.std.specs.Prelude.{Err}
 
 -- 32 bits are in four bytes after the first
 few : (n u : ℕ) → u < 8 → 1 < n → leb ((n - 1) * 8 - u) 32 ≡ leb n 5
@@ -26,8 +26,8 @@ few n u h k = elim (dec_le n 5) [
 -- the same, by the tests of the code
 by_code : {z : Value} (c : List ℕ) (u last w : ℕ) → w ≡ 2 ^ u → u < 8 → 1 < length c
     → z ≡ pick (eqb (last % w) 0)
-    (pick (eqb (last / w % 2) 1) (pick (leb (length c) 5) (Of false (weigh (drop 1 c))) (Wrong ManyBits)) (Wrong TrailingBits))
-    (Wrong BadBits)
+    (pick (eqb (last / w % 2) 1) (pick (leb (length c) 5) (of false (weigh (drop 1 c))) (Err ManyBits)) (Err TrailingBits))
+    (Err BadBits)
     → z ≡ bits_of c u last
 unfolding bits_of
 by_code c u last w e h k f = rw (← e, few (length c) u h k) f

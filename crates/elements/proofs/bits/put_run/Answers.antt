@@ -13,11 +13,11 @@ use Rattle.elements.proofs.bits.put_run.Goals as goal
 start : (a : List ℕ) (o k w : ℕ) → k ≤ 4 → Run a a o o k w k w
 start a o k w h = record { few = h; rest = omega arith; at = omega arith; done = []; put = put_none a o; all = refl }
 
-next : {a b c : List ℕ} {o p q k w left v : ℕ} (r : ℕ) → Run a b o p k w left v → 0 < left → r ≡ reversed (v % 256) → Put b c p q (r ∷ []) → Run a c o q k w (left - 1) (v / 256)
+next : {a b c : List ℕ} {o p q k w left v : ℕ} (r : ℕ) → Run a b o p k w left v → 0 < left → r ≡ reversed (v % 256) → Put b c p q (r ∷ []) → {n : ℕ} → n ≡ left - 1 → Run a c o q k w n (v / 256)
 unfolding flag_run
-next {left = Prim.Native.Nat.zero} r f h e g = elim h [ ]
-next {left = suc j} {v = v} r f h e g =
-    let z : suc j - 1 ≡ j = omega arith in
+next {left = Prim.Native.Nat.zero} r f h e g u = elim h [ ]
+next {left = suc j} {v = v} r f h e g {n} u =
+    let z : n ≡ j = omega arith in
     record {
       few = f.few;
       rest = omega arith;
@@ -27,18 +27,18 @@ next {left = suc j} {v = v} r f h e g =
       all = rw (append_snoc, z, e) f.all;
     }
 
-end : {a b : List ℕ} {o p k w left v : ℕ} → Run a b o p k w left v → left ≤ 0 → Put a b o p (flag_run k w)
+end : {a b : List ℕ} {o p k w left v : ℕ} → Run a b o p k w left v → left ≤ 0 → (p ≡ o + k) × Put a b o p (flag_run k w)
 unfolding flag_run
-end {left = left} f h = let z : left ≡ 0 = omega arith in put_as f.put (sym (append-nil f.done) ∙ (rw z at f.all))
+end {left = left} f h = let z : left ≡ 0 = omega arith in (omega (arith, f.at), put_as f.put (sym (append-nil f.done) ∙ (rw z at f.all)))
 
-pub loop-left-init : goal.loop-left-init
-loop-left-init c = search (start, rules)
+pub loop-turn-init : goal.loop-turn-init
+loop-turn-init c = search (start, rules)
 
-pub loop-left-preserved : goal.loop-left-preserved
-loop-left-preserved c = search (next, rules)
+pub loop-turn-preserved : goal.loop-turn-preserved
+loop-turn-preserved c = search (next, rules)
 
 pub shape_of-out : goal.shape_of-out
-shape_of-out c = put_length c.loop-left.invariant.put
+shape_of-out c = put_length c.loop-turn.invariant.put
 
 pub returns : goal.returns
-returns c = search (end, rules)
+returns c = end c.loop-turn.invariant (omega arith)

@@ -14,8 +14,5 @@ pub record Run (a b : List ℕ) (o p k w left v : ℕ) : Type 0 where
   pub put : Put a b o p done
   pub all : done ++ flag_run left v ≡ flag_run k w
 
-abbrev pub invariant-loop-left : goal.invariant-loop-left
-invariant-loop-left l = Run l.initial.out l.out l.o l.p l.k l.w l.left l.v
-
-abbrev pub decreases-loop-left : goal.decreases-loop-left
-decreases-loop-left l = l.left
+abbrev pub invariant-loop-turn : goal.invariant-loop-turn
+invariant-loop-turn l = Run l.initial.out l.out l.o l.p l.k l.w (l.k - l._turn) l.v

@@ -8,8 +8,8 @@ returns-then-end-p c = search tests
 
 pub returns-then-x-lt128 : goal.returns-then-x-lt128
 unfolding long1
-returns-then-x-lt128 c = rw (← c.wide-x.ensures) (search tests)
+returns-then-x-lt128 c = rw (← c.from-x.ensures) (search tests)
 
 pub returns : goal.returns
 unfolding long1
-returns c = rw (← c.wide-x.ensures) (search tests)
+returns c = rw (← c.from-x.ensures) (search tests)

@@ -22,8 +22,8 @@ room n w h k f = omega (arith, f.at, spread_length 4 n (w / 256) (omega arith))
 pub returns-then-w-lt128 : goal.returns-then-w-lt128
 returns-then-w-lt128 t c = search (one, rules)
 
-pub put_byte-requires-2 : goal.put_byte-requires-2
-put_byte-requires-2 t c = search (room, rules)
+pub put-requires-2 : goal.put-requires-2
+put-requires-2 t c = search (room, rules)
 
 pub returns : goal.returns
 returns t c = search (another, rules)

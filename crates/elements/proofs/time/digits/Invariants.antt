@@ -6,6 +6,3 @@ use Rattle.elements.proofs.time.digits.Given as goal
 
 abbrev pub invariant-loop-i : goal.invariant-loop-i
 invariant-loop-i l = (l.i ≤ l.n) × (digits (l.n - l.i) (drop l.i l.c) ≡ digits l.n l.c)
-
-abbrev pub decreases-loop-i : goal.decreases-loop-i
-decreases-loop-i l = l.n - l.i

@@ -1,13 +1,10 @@
-use borrow.Author.Rules.{rules}
-use Rattle.objects.specs.DidLaws.{did_high, did_small}
+use Rattle.objects.specs.DidLaws.{did_left}
 use Rattle.files.proofs.FillLaws.{info_fails, info_then}
+use borrow.Author.Rules.{rules}
 use Rattle.files.proofs.cia.info.Goals as goal
 
-pub info_fill-requires : goal.info_fill-requires
-info_fill-requires c = search (did_high, did_small, info_fails, info_then, rules)
+pub returns-in_err-at : goal.returns-in_err-at
+returns-in_err-at c = search (did_left, info_fails, rules)
 
-pub returns-in-Fails : goal.returns-in-Fails
-returns-in-Fails c = search (did_high, did_small, info_fails, info_then, rules)
-
-pub returns-in-Took : goal.returns-in-Took
-returns-in-Took c = search (did_high, did_small, info_fails, info_then, rules)
+pub returns : goal.returns
+returns c = search (info_then, rules)

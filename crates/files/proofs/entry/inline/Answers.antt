@@ -1,5 +1,5 @@
-use borrow.Author.Rules.{rules}
 use Rattle.files.specs.ObjectsLaws.{objects_front}
+use borrow.Author.Rules.{rules}
 use Rattle.files.proofs.entry.inline.Goals as goal
 
 pub returns : goal.returns

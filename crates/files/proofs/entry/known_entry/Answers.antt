@@ -1,16 +1,12 @@
-use borrow.Author.Rules.{rules}
-use Rattle.files.specs.ObjectsLaws.{objects_high, objects_small, objects_fails, objects_ends, objects_ends_fell}
+use Rattle.files.specs.ObjectsLaws.{objects_left, objects_fails, objects_ends, objects_ends_fell}
 use Rattle.files.proofs.EntryLaws.{plain_ended}
 use Rattle.files.proofs.entry.known_entry.Goals as goal
 
-pub ended-requires : goal.ended-requires
-ended-requires c = search (objects_high, objects_small, rules)
+pub returns-in_err-at : goal.returns-in_err-at
+returns-in_err-at c = objects_left c.from_residual.ensures (objects_fails c.in_err-at.ensures _)
 
-pub returns-in-Fails : goal.returns-in-Fails
-returns-in-Fails c = search (objects_fails, objects_ends_fell, objects_ends, plain_ended, rules)
+pub returns-in_err-at-2 : goal.returns-in_err-at-2
+returns-in_err-at-2 c = objects_left c.from_residual-in_err-at-2.ensures (objects_ends_fell c.in_ok-at.ensures _ c.in_err-at-2.ensures)
 
-pub returns-in-Fails-ended : goal.returns-in-Fails-ended
-returns-in-Fails-ended c = search (objects_fails, objects_ends_fell, objects_ends, plain_ended, rules)
-
-pub returns-in-Took-ended : goal.returns-in-Took-ended
-returns-in-Took-ended c = search (objects_fails, objects_ends_fell, objects_ends, plain_ended, rules)
+pub returns : goal.returns
+returns c = objects_ends c.in_ok-at.ensures _ (plain_ended _ _ _) c.in_ok-at-2.ensures

@@ -1,12 +1,9 @@
+use Rattle.objects.specs.DidLaws.{did_left, did_fails, did_ends}
 use borrow.Author.Rules.{rules}
-use Rattle.objects.specs.DidLaws.{did_high, did_small, did_fails, did_ends}
 use Rattle.files.proofs.entry.path_entry.Goals as goal
 
-pub ended-requires : goal.ended-requires
-ended-requires c = search (did_high, did_small, did_fails, did_ends, rules)
+pub returns-in_err-at : goal.returns-in_err-at
+returns-in_err-at c = search (did_left, did_fails, rules)
 
-pub returns-in-Fails : goal.returns-in-Fails
-returns-in-Fails c = search (did_high, did_small, did_fails, did_ends, rules)
-
-pub returns-in-Took : goal.returns-in-Took
-returns-in-Took c = search (did_high, did_small, did_fails, did_ends, rules)
+pub returns : goal.returns
+returns c = search (did_ends, rules)

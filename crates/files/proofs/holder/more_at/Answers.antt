@@ -6,7 +6,4 @@ pub returns-in-List : goal.returns-in-List
 returns-in-List c = search (more_list, rules)
 
 pub returns-in-File : goal.returns-in-File
-returns-in-File c = search (more_file, rules)
-
-pub returns-in-Record : goal.returns-in-Record
-returns-in-Record c = search (more_record, rules)
+returns-in-File c = search (more_file, more_record, rules)

@@ -1,17 +1,9 @@
-use Rattle.layouts.proofs.ServiceLaws.{read_long}
-use Rattle.elements.specs.Lists.{count_take}
 use Rattle.layouts.proofs.AcceptLaws.{confirms_not, confirms_by}
 use borrow.Author.Rules.{rules}
 use Rattle.layouts.proofs.accept.confirms.Goals as goal
 
-pub slice_bounds-read_into-end : goal.slice_bounds-read_into-end
-slice_bounds-read_into-end c = search (confirms_not, confirms_by, read_long, count_take, rules)
+pub returns-in-Ok : goal.returns-in-Ok
+returns-in-Ok c = confirms_by _ _ c.read_into.ensures c.in-Ok.is c.eq.ensures
 
-pub is_same-requires : goal.is_same-requires
-is_same-requires c = search (confirms_not, confirms_by, read_long, count_take, rules)
-
-pub returns-in-Refused : goal.returns-in-Refused
-returns-in-Refused c = search (confirms_not, confirms_by, read_long, count_take, rules)
-
-pub returns-in-Accepted : goal.returns-in-Accepted
-returns-in-Accepted c = search (confirms_not, confirms_by, read_long, count_take, rules)
+pub returns-in-Err : goal.returns-in-Err
+returns-in-Err c = search (confirms_not, rules)

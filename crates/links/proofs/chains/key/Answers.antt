@@ -6,8 +6,5 @@ use Rattle.links.proofs.chains.key.Goals as goal
 pub returns-then-e-p : goal.returns-then-e-p
 returns-then-e-p c = search key_none
 
-pub overflow_cast-result : goal.overflow_cast-result
-overflow_cast-result c = omega (arith, c.shared_slice_known-1.given (c.args.e - 1))
-
 pub returns : goal.returns
-returns c = key_last _ _ _ c.requires c.if-e-p.false (omega (arith, c.shared_slice_known-1.given (c.args.e - 1)))
+returns c = key_last _ _ _ c.requires c.if-e-p.false (omega (arith, c.type_inv.b (c.args.e - 1)))

@@ -1,8 +1,5 @@
-use Rattle.links.proofs.ObjectLaws.{searching_none, searching_closed, searching_found, searching_next, searching_all}
+use Rattle.links.proofs.ObjectLaws.{searching_closed, searching_found, searching_next, searching_all}
 use Rattle.links.proofs.finding.find.Goals as goal
-
-pub loop-j-init : goal.loop-j-init
-loop-j-init c = search searching_none
 
 pub returns-then-is_closing : goal.returns-then-is_closing
 returns-then-is_closing c = search searching_closed

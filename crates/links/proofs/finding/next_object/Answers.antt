@@ -1,8 +1,5 @@
-use Rattle.links.proofs.ObjectLaws.{seeking_none, seeking_found, seeking_next, seeking_all}
+use Rattle.links.proofs.ObjectLaws.{seeking_found, seeking_next, seeking_all}
 use Rattle.links.proofs.finding.next_object.Goals as goal
-
-pub loop-j-init : goal.loop-j-init
-loop-j-init c = search seeking_none
 
 pub returns-then-word-eq288 : goal.returns-then-word-eq288
 returns-then-word-eq288 c = search seeking_found

@@ -1,11 +1,8 @@
-use Rattle.links.proofs.RowLaws.{answer_other, answer_none, answer_same}
+use native.Mathlib.Omega.{arith}
 use Rattle.links.proofs.rows.is_answer.Goals as goal
 
-pub returns-then-b-place : goal.returns-then-b-place
-returns-then-b-place c = search answer_none
+pub overflow_add-p : goal.overflow_add-p
+overflow_add-p c = record { fits = let h = rw c.in-Some.is at c.requires.0 in omega arith }
 
-pub returns-then-is_answering : goal.returns-then-is_answering
-returns-then-is_answering c = search answer_same
-
-pub returns : goal.returns
-returns c = search answer_other
+pub record_end-requires : goal.record_end-requires
+record_end-requires c = rw c.in-Some.is at c.requires.0

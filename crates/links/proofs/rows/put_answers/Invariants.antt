@@ -1,9 +1,11 @@
 use Prim.Native.Nat.{◌-◌}
+use Rattle.std.specs.Option.{unwrap_or}
+use Rattle.links.specs.Numbers.{number_of}
 use Rattle.links.proofs.RowLaws.{Answering}
 use Rattle.links.proofs.rows.put_answers.Given as goal
 
-abbrev pub invariant-loop-j : goal.invariant-loop-j
-invariant-loop-j l = Answering l.b l.p l.e l.link l.object l.n l.w l.initial.rows l.rows l.o l.j l.q
+abbrev pub invariant-loop-next : goal.invariant-loop-next
+invariant-loop-next l = Answering l.b l.s.at l.s.end (number_of l.s.link) l.s.object l.index.n l.w l.initial.rows l.rows l.o l.next l.q
 
-abbrev pub decreases-loop-j : goal.decreases-loop-j
-decreases-loop-j l = l.n - l.j
+abbrev pub decreases-loop-next : goal.decreases-loop-next
+decreases-loop-next l = l.index.n - unwrap_or l.next l.index.n

@@ -1,5 +1,5 @@
-use Rattle.makers.specs.MadeLaws.{next_there}
-use Rattle.makers.proofs.LeafLaws.{fill_yes, fill_no}
+use Rattle.rules.specs.Render.{r_fill}
+use Rattle.makers.specs.MadeLaws.{next_there, when_yes, when_no}
 use borrow.Author.Rules.{rules}
 use Rattle.makers.proofs.leaf.make_fill.Goals as goal
 
@@ -7,7 +7,9 @@ pub make_same-requires : goal.make_same-requires
 make_same-requires c = search (next_there, rules)
 
 pub returns-then-is_next : goal.returns-then-is_next
-returns-then-is_next c = search (fill_yes, rules)
+unfolding r_fill
+returns-then-is_next c = search (when_yes, rules)
 
 pub returns : goal.returns
-returns c = search (fill_no, rules)
+unfolding r_fill
+returns c = search (when_no, rules)

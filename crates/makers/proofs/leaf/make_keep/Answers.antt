@@ -1,9 +1,12 @@
-use Rattle.makers.proofs.LeafLaws.{keep_yes, keep_no}
+use Rattle.rules.specs.Render.{plain, r_keep}
+use Rattle.makers.specs.MadeLaws.{when_yes, when_no}
 use borrow.Author.Rules.{rules}
 use Rattle.makers.proofs.leaf.make_keep.Goals as goal
 
 pub returns-then-is_next : goal.returns-then-is_next
-returns-then-is_next c = search (keep_yes, rules)
+unfolding r_keep
+returns-then-is_next c = search (when_yes c.args.kind plain, rules)
 
 pub returns : goal.returns
-returns c = search (keep_no, rules)
+unfolding r_keep
+returns c = search (when_no c.args.kind plain, rules)

@@ -1,13 +1,9 @@
-use Rattle.makers.proofs.LeafLaws.{sequence_first, sequence_second}
-use Rattle.makers.specs.MadeLaws.{made_small, made_high, made_room}
 use borrow.Author.Rules.{rules}
+use Rattle.makers.specs.MadeLaws.{next_took, next_long, made_left_by}
 use Rattle.makers.proofs.leaf.make_sequence.Goals as goal
 
-pub make_rest_in-requires : goal.make_rest_in-requires
-make_rest_in-requires c = search (made_high, made_room, made_small, rules)
+pub returns-in_err-made : goal.returns-in_err-made
+returns-in_err-made c = search (made_left_by, next_long, rules)
 
-pub returns-in-Long : goal.returns-in-Long
-returns-in-Long c = search (sequence_first, rules)
-
-pub returns-in-Took : goal.returns-in-Took
-returns-in-Took c = search (sequence_second, rules)
+pub returns : goal.returns
+returns c = search (next_took, rules)

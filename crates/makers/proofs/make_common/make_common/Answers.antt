@@ -1,20 +1,18 @@
-use Rattle.makers.specs.MadeLaws.{made_high, made_room}
-use Rattle.makers.proofs.MakeCommonLaws.{common_first, common_second, common_third}
-use native.Mathlib.Omega.{arith}
-use borrow.Author.Rules.{rules}
+use Rattle.rules.specs.Tables.{common_rows, rule_rows, mark}
+use Rattle.rules.specs.Render.{within, when, r_rows, r_keep, r_all, r_rule}
+use Rattle.rules.specs.Layouts as layouts
+use Rattle.makers.specs.MadeLaws.{made_left_by}
+use Rattle.makers.specs.ManyLaws.{three_first, three_second, three_third}
 use Rattle.makers.proofs.make_common.make_common.Goals as goal
 
-pub make_due_rules-requires : goal.make_due_rules-requires
-make_due_rules-requires c = search (made_high, made_room, rules)
+pub returns-in_err-made : goal.returns-in_err-made
+unfolding layouts.common layouts.rules layouts.rule
+returns-in_err-made c = made_left_by (three_first (r_rows common_rows) (when (mark rule_rows) (within 0x30 (r_all (mark rule_rows) r_rule))) (r_keep 0x012f) c.in_err-made.ensures) c.from_residual.ensures
 
-pub make_rest_in-requires : goal.make_rest_in-requires
-make_rest_in-requires c = (made_high c.make_due_rules.ensures c.in-Took-make_due_rules.is, omega arith, made_room c.make_due_rules.ensures c.in-Took-make_due_rules.is, omega arith)
+pub returns-in_err-made-2 : goal.returns-in_err-made-2
+unfolding layouts.common layouts.rules layouts.rule
+returns-in_err-made-2 c = made_left_by (three_second (r_rows common_rows) (when (mark rule_rows) (within 0x30 (r_all (mark rule_rows) r_rule))) (r_keep 0x012f) c.in_ok-made.ensures c.in_err-made-2.ensures) c.from_residual-in_err-made-2.ensures
 
-pub returns-in-Long : goal.returns-in-Long
-returns-in-Long c = common_first c.make_rows.ensures c.in-Long.is
-
-pub returns-in-Long-make_due_rules : goal.returns-in-Long-make_due_rules
-returns-in-Long-make_due_rules c = common_second c.make_rows.ensures c.in-Took.is c.make_due_rules.ensures c.in-Long-make_due_rules.is
-
-pub returns-in-Took-make_due_rules : goal.returns-in-Took-make_due_rules
-returns-in-Took-make_due_rules c = common_third c.make_rows.ensures c.in-Took.is c.make_due_rules.ensures c.in-Took-make_due_rules.is c.make_rest_in.ensures
+pub returns : goal.returns
+unfolding layouts.common layouts.rules layouts.rule
+returns c = three_third (r_rows common_rows) (when (mark rule_rows) (within 0x30 (r_all (mark rule_rows) r_rule))) (r_keep 0x012f) c.in_ok-made.ensures c.in_ok-made-2.ensures c.make_rest_in.ensures

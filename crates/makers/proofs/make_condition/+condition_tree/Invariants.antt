@@ -11,8 +11,5 @@ decreases-make_condition_as l = 3 * l.levels + 2
 abbrev pub decreases-make_times : goal.decreases-make_times
 decreases-make_times l = 3 * l.levels + 1
 
-abbrev pub invariant-make_times-loop-left : goal.invariant-make_times-loop-left
-invariant-make_times-loop-left l = Timing l.b l.levels l.k l.initial.out l.out l.i l.o l.left l.n l.q
-
-abbrev pub decreases-make_times-loop-left : goal.decreases-make_times-loop-left
-decreases-make_times-loop-left l = l.left
+abbrev pub invariant-make_times-loop-turn : goal.invariant-make_times-loop-turn
+invariant-make_times-loop-turn l = Timing l.b l.levels l.k l.initial.out l.out l.fn.made.next l.fn.made.end l._turn l.done

@@ -1,14 +1,14 @@
-use Rattle.makers.proofs.MakeObjectLaws.{contents_first, contents_second}
-use Rattle.makers.specs.MadeLaws.{made_small}
-use Rattle.makers.specs.MadeLaws.{made_high, made_room}
-use borrow.Author.Rules.{rules}
+use Rattle.rules.specs.Tables.{type_of}
+use Rattle.rules.specs.Render.{within, r_type}
+use Rattle.makers.specs.Composed.{attributes}
+use Rattle.rules.specs.Layouts as layouts
+use Rattle.makers.specs.MadeLaws.{made_left_by, next_long, next_took}
 use Rattle.makers.proofs.make_object.make_contents.Goals as goal
 
-pub type_element-requires : goal.type_element-requires
-type_element-requires c = search (made_high, made_room, made_small, rules)
+pub returns-in_err-made : goal.returns-in_err-made
+unfolding layouts.contents layouts.subclass
+returns-in_err-made c = made_left_by (next_long (attributes c.args.entry) (within 0xa1 (r_type (type_of c.args.entry c.args.tag))) c.in_err-made.ensures) c.from_residual.ensures
 
-pub returns-in-Long : goal.returns-in-Long
-returns-in-Long c = search (contents_first, rules)
-
-pub returns-in-Took : goal.returns-in-Took
-returns-in-Took c = search (contents_second, rules)
+pub returns : goal.returns
+unfolding layouts.contents layouts.subclass
+returns c = next_took (attributes c.args.entry) (within 0xa1 (r_type (type_of c.args.entry c.args.tag))) c.in_ok-made.ensures (rw c.type_of.ensures at c.type_element.ensures)

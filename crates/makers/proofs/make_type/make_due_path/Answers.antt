@@ -1,12 +1,8 @@
-use Rattle.makers.proofs.MakeTypeLaws.{path_some, path_here, path_absent}
+use Rattle.rules.specs.Render.{within}
+use Rattle.makers.specs.Composed.{path_of}
+use Rattle.makers.specs.MadeLaws.{when_no}
 use borrow.Author.Rules.{rules}
 use Rattle.makers.proofs.make_type.make_due_path.Goals as goal
 
-pub row_of-first-requires : goal.row_of-first-requires
-row_of-first-requires c = search (path_some, rules)
-
-pub returns-then-is_next : goal.returns-then-is_next
-returns-then-is_next c = search (path_here, rules)
-
 pub returns : goal.returns
-returns c = search (path_absent, rules)
+returns c = when_no _ (within c.args.tag (path_of c.args.q)) _ _ (rw (c.from.ensures, c.row_of-first.ensures, c.requires.0) at c.is_next.ensures) c.if-is_next.false (search rules) (search rules)

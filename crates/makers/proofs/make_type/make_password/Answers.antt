@@ -1,20 +1,20 @@
-use Rattle.makers.specs.MadeLaws.{made_small}
-use Rattle.makers.proofs.MakeTypeLaws.{password_first, password_second, password_third}
-use Rattle.makers.specs.MadeLaws.{made_high, made_room}
-use borrow.Author.Rules.{rules}
+use Rattle.rules.specs.declared.table.Sequence.TheVariants.{Path}
+use Rattle.rules.specs.Tables.{password_rows}
+use Rattle.rules.specs.Render.{r_rows, r_keep}
+use Rattle.makers.specs.Composed.{due_path}
+use Rattle.rules.specs.Layouts as layouts
+use Rattle.makers.specs.MadeLaws.{made_left_by}
+use Rattle.makers.specs.ManyLaws.{three_first, three_second, three_third}
 use Rattle.makers.proofs.make_type.make_password.Goals as goal
 
-pub make_due_path-requires : goal.make_due_path-requires
-make_due_path-requires c = search (made_high, made_room, made_small, rules)
+pub returns-in_err-made : goal.returns-in_err-made
+unfolding layouts.password layouts.path_from
+returns-in_err-made c = made_left_by (three_first (r_rows password_rows) (due_path Path 0x30) (r_keep 0x019f) c.in_err-made.ensures) c.from_residual.ensures
 
-pub make_rest_in-requires : goal.make_rest_in-requires
-make_rest_in-requires c = (made_high c.make_due_path.ensures c.in-Took-make_due_path.is, search rules, made_room c.make_due_path.ensures c.in-Took-make_due_path.is, search (made_small, rules))
+pub returns-in_err-made-2 : goal.returns-in_err-made-2
+unfolding layouts.password layouts.path_from
+returns-in_err-made-2 c = made_left_by (three_second (r_rows password_rows) (due_path Path 0x30) (r_keep 0x019f) c.in_ok-made.ensures c.in_err-made-2.ensures) c.from_residual-in_err-made-2.ensures
 
-pub returns-in-Long : goal.returns-in-Long
-returns-in-Long c = search (password_first, rules)
-
-pub returns-in-Long-make_due_path : goal.returns-in-Long-make_due_path
-returns-in-Long-make_due_path c = search (password_second, rules)
-
-pub returns-in-Took-make_due_path : goal.returns-in-Took-make_due_path
-returns-in-Took-make_due_path c = search (password_third, rules)
+pub returns : goal.returns
+unfolding layouts.password layouts.path_from
+returns c = three_third (r_rows password_rows) (due_path Path 0x30) (r_keep 0x019f) c.in_ok-made.ensures c.in_ok-made-2.ensures c.make_rest_in.ensures

@@ -1,20 +1,20 @@
-use Rattle.makers.specs.MadeLaws.{made_small}
-use Rattle.makers.proofs.MakeTypeLaws.{private_first, private_second, private_third}
-use Rattle.makers.specs.MadeLaws.{made_high, made_room}
-use borrow.Author.Rules.{rules}
+use Rattle.rules.specs.declared.table.Sequence.TheVariants.{Path}
+use Rattle.rules.specs.Tables.{private_rows}
+use Rattle.rules.specs.Render.{r_rows, r_keep}
+use Rattle.makers.specs.Composed.{due_path}
+use Rattle.rules.specs.Layouts as layouts
+use Rattle.makers.specs.MadeLaws.{made_left_by}
+use Rattle.makers.specs.ManyLaws.{three_first, three_second, three_third}
 use Rattle.makers.proofs.make_type.make_private.Goals as goal
 
-pub make_rows-requires : goal.make_rows-requires
-make_rows-requires c = search (made_high, made_room, made_small, rules)
+pub returns-in_err-made : goal.returns-in_err-made
+unfolding layouts.private_key layouts.path_from
+returns-in_err-made c = made_left_by (three_first (due_path Path 0x30) (r_rows private_rows) (r_keep 0x018f) c.in_err-made.ensures) c.from_residual.ensures
 
-pub make_rest_in-requires : goal.make_rest_in-requires
-make_rest_in-requires c = (made_high c.make_rows.ensures c.in-Took-make_rows.is, search rules, made_room c.make_rows.ensures c.in-Took-make_rows.is, search (made_small, rules))
+pub returns-in_err-made-2 : goal.returns-in_err-made-2
+unfolding layouts.private_key layouts.path_from
+returns-in_err-made-2 c = made_left_by (three_second (due_path Path 0x30) (r_rows private_rows) (r_keep 0x018f) c.in_ok-made.ensures c.in_err-made-2.ensures) c.from_residual-in_err-made-2.ensures
 
-pub returns-in-Long : goal.returns-in-Long
-returns-in-Long c = search (private_first, rules)
-
-pub returns-in-Long-make_rows : goal.returns-in-Long-make_rows
-returns-in-Long-make_rows c = search (private_second, rules)
-
-pub returns-in-Took-make_rows : goal.returns-in-Took-make_rows
-returns-in-Took-make_rows c = search (private_third, rules)
+pub returns : goal.returns
+unfolding layouts.private_key layouts.path_from
+returns c = three_third (due_path Path 0x30) (r_rows private_rows) (r_keep 0x018f) c.in_ok-made.ensures c.in_ok-made-2.ensures c.make_rest_in.ensures

@@ -1,12 +1,12 @@
 use borrow.Author.Rules.{rules}
-use Rattle.objects.specs.DidLaws.{element_fails, element_here, head_low, head_mid, head_high}
+use Rattle.objects.specs.DidLaws.{did_left, element_fails, element_here, head_element}
 use Rattle.objects.proofs.class.any_sealed.Goals as goal
 
+pub returns-in_err-x : goal.returns-in_err-x
+returns-in_err-x c = search (did_left, element_fails, rules)
+
 pub sealed-requires : goal.sealed-requires
-sealed-requires c = search (element_fails, element_here, head_low, head_mid, head_high, rules)
+sealed-requires c = head_element _ _ _ c.in_ok-x.ensures c.requires
 
-pub returns-in-No : goal.returns-in-No
-returns-in-No c = search (element_fails, element_here, head_low, head_mid, head_high, rules)
-
-pub returns-in-At : goal.returns-in-At
-returns-in-At c = search (element_fails, element_here, head_low, head_mid, head_high, rules)
+pub returns : goal.returns
+returns c = search (element_here, rules)

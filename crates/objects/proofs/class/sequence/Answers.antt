@@ -1,12 +1,6 @@
 use borrow.Author.Rules.{rules}
-use Rattle.objects.specs.DidLaws.{did_high, did_small, did_fails, did_then}
+use Rattle.objects.specs.DidLaws.{did_then}
 use Rattle.objects.proofs.class.sequence.Goals as goal
 
-pub rest_in-requires : goal.rest_in-requires
-rest_in-requires c = search (did_high, did_small, did_fails, did_then, rules)
-
-pub returns-in-Fails : goal.returns-in-Fails
-returns-in-Fails c = search (did_high, did_small, did_fails, did_then, rules)
-
-pub returns-in-Took : goal.returns-in-Took
-returns-in-Took c = search (did_high, did_small, did_fails, did_then, rules)
+pub returns : goal.returns
+returns c = search (did_then, rules)

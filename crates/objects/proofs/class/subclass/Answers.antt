@@ -1,13 +1,11 @@
-use borrow.Author.Rules.{rules}
-use Rattle.objects.specs.DidLaws.{did_high, did_small}
-use Rattle.objects.proofs.ClassLaws.{subclass_fails, subclass_ends}
+use Rattle.rules.specs.Layouts as layouts
+use Rattle.objects.specs.DidLaws.{did_left, did_fails, did_ends}
 use Rattle.objects.proofs.class.subclass.Goals as goal
 
-pub ended-requires : goal.ended-requires
-ended-requires c = search (did_high, did_small, subclass_fails, subclass_ends, rules)
+pub returns-in_err-at : goal.returns-in_err-at
+unfolding layouts.subclass
+returns-in_err-at c = record { is = λ at. did_left c.from_residual.ensures (did_fails c.in_err-at.ensures _) }
 
-pub returns-in-Fails : goal.returns-in-Fails
-returns-in-Fails c = search (did_high, did_small, subclass_fails, subclass_ends, rules)
-
-pub returns-in-Took : goal.returns-in-Took
-returns-in-Took c = search (did_high, did_small, subclass_fails, subclass_ends, rules)
+pub returns : goal.returns
+unfolding layouts.subclass
+returns c = record { is = λ at. did_ends c.in_ok-at.ensures _ c.ended.ensures }

@@ -1,19 +1,16 @@
-use borrow.Author.Rules.{rules}
-use Rattle.objects.specs.DidLaws.{did_high, did_small}
-use Rattle.objects.proofs.CommonLaws.{rule_first, rule_second, rule_third}
+use Rattle.rules.specs.Layouts as layouts
+use Rattle.objects.specs.DidLaws.{did_left, did_then, did_fails}
+use Rattle.objects.proofs.PartLaws.{did_quiet}
 use Rattle.objects.proofs.common.rule.Goals as goal
 
-pub condition-requires : goal.condition-requires
-condition-requires c = search (did_high, did_small, rules)
+pub returns-in_err-at : goal.returns-in_err-at
+unfolding layouts.rule
+returns-in_err-at c = record { is = λ at. did_left c.from_residual.ensures (did_fails (did_fails c.in_err-at.ensures _) _) }
 
-pub rest_in-requires : goal.rest_in-requires
-rest_in-requires c = (did_high c.condition.ensures.0 c.in-Took-condition.is, c.requires.1, c.requires.2, did_small c.condition.ensures.0 c.in-Took-condition.is)
+pub returns-in_err-at-2 : goal.returns-in_err-at-2
+unfolding layouts.rule
+returns-in_err-at-2 c = record { is = λ at. did_left c.from_residual-in_err-at-2.ensures (did_fails (did_then c.in_ok-at.ensures _ (did_quiet c.in_err-at-2.ensures.0)) _) }
 
-pub returns-in-Fails : goal.returns-in-Fails
-returns-in-Fails c = rule_first _ c.components.ensures c.in-Fails.is
-
-pub returns-in-Fails-condition : goal.returns-in-Fails-condition
-returns-in-Fails-condition c = rule_second _ c.components.ensures c.in-Took.is c.condition.ensures.0 c.in-Fails-condition.is
-
-pub returns-in-Took-condition : goal.returns-in-Took-condition
-returns-in-Took-condition c = rule_third _ c.components.ensures c.in-Took.is c.condition.ensures.0 c.in-Took-condition.is c.rest_in.ensures
+pub returns : goal.returns
+unfolding layouts.rule
+returns c = record { is = λ at. did_then (did_then c.in_ok-at.ensures _ (did_quiet c.in_ok-at-2.ensures.0)) _ c.rest_in.ensures }

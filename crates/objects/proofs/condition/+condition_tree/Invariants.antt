@@ -18,7 +18,7 @@ abbrev pub decreases-negated : goal.decreases-negated
 decreases-negated l = 5 * l.levels + 3
 
 abbrev pub invariant-conditions-loop-n : goal.invariant-conditions-loop-n
-invariant-conditions-loop-n l = Listing l.s l.levels l.initial.out l.out l.end l.at l.o l.k l.n l.p
+invariant-conditions-loop-n l = Listing l.s l.levels l.initial.out l.out l.end l.initial.n.dump l.initial.n.book l.count l.n.dump l.n.book
 
 abbrev pub decreases-conditions-loop-n : goal.decreases-conditions-loop-n
-decreases-conditions-loop-n l = l.end - l.n
+decreases-conditions-loop-n l = l.end - l.n.dump

@@ -1,9 +1,13 @@
 use borrow.Author.Rules.{rules}
-use Rattle.objects.proofs.ConditionLaws.{identified_long, identified_put}
+use Rattle.rules.specs.Rulings.{identified}
+use Rattle.objects.specs.DidLaws.{did_fell, did_one}
+use Rattle.objects.proofs.Auto.{tests}
 use Rattle.objects.proofs.condition.identifier.Goals as goal
 
-pub returns-then-e-a-le255 : goal.returns-then-e-a-le255
-returns-then-e-a-le255 c = search (identified_put, rules)
+pub returns-then-x-le255 : goal.returns-then-x-le255
+unfolding identified
+returns-then-x-le255 c = search (tests, did_one, rules)
 
 pub returns : goal.returns
-returns c = search (identified_long, rules)
+unfolding identified
+returns c = search (tests, did_fell, rules)

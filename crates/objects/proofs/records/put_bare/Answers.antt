@@ -1,6 +1,8 @@
+use Rattle.elements.specs.PutLaws.{put_then}
+use Rattle.elements.specs.Record.{record_bytes}
 use borrow.Author.Rules.{rules}
-use Rattle.objects.proofs.RecordLaws.{record_bare}
 use Rattle.objects.proofs.records.put_bare.Goals as goal
 
 pub returns : goal.returns
-returns c = search (record_bare, rules)
+unfolding record_bytes
+returns c = search (put_then, rules)

@@ -1,27 +1,27 @@
-use borrow.Author.Rules.{rules}
-use Rattle.objects.proofs.RowLaws.{judged_integer, judged_boolean, judged_octets, judged_text, judged_bits, judged_time, judged_null, boolean_byte}
+use Rattle.std.proofs.Common.{inl, inr}
+use native.Mathlib.Omega.{arith}
+use Rattle.rules.specs.Parts.{payload}
+use Rattle.objects.specs.DidLaws.{did_one}
 use Rattle.objects.proofs.row.judged.Goals as goal
 
-pub boolean_row-requires : goal.boolean_row-requires
-boolean_row-requires c = search (boolean_byte, rules)
-
 pub returns-in-Integer : goal.returns-in-Integer
-returns-in-Integer c = search (judged_integer, judged_boolean, judged_octets, judged_text, judged_bits, judged_time, judged_null, rules)
+unfolding payload
+returns-in-Integer c = rw c.in-Integer.is c.number_row.ensures
 
 pub returns-in-Boolean : goal.returns-in-Boolean
-returns-in-Boolean c = search (judged_integer, judged_boolean, judged_octets, judged_text, judged_bits, judged_time, judged_null, rules)
+unfolding payload
+returns-in-Boolean c = rw c.in-Boolean.is c.boolean_row.ensures
 
 pub returns-in-Octets : goal.returns-in-Octets
-returns-in-Octets c = search (judged_integer, judged_boolean, judged_octets, judged_text, judged_bits, judged_time, judged_null, rules)
-
-pub returns-in-Text : goal.returns-in-Text
-returns-in-Text c = search (judged_integer, judged_boolean, judged_octets, judged_text, judged_bits, judged_time, judged_null, rules)
+unfolding payload
+returns-in-Octets c = elim c.in-Octets.is [ inl z ↦ rw z c.bytes_row.ensures | inr z ↦ rw z c.bytes_row.ensures ]
 
 pub returns-in-Bits : goal.returns-in-Bits
-returns-in-Bits c = search (judged_integer, judged_boolean, judged_octets, judged_text, judged_bits, judged_time, judged_null, rules)
+unfolding payload
+returns-in-Bits c = rw c.in-Bits.is (did_one _ _ _ _ c.put_number-book.ensures.1 (omega arith) (omega arith))
 
 pub returns-in-Time : goal.returns-in-Time
-returns-in-Time c = search (judged_integer, judged_boolean, judged_octets, judged_text, judged_bits, judged_time, judged_null, rules)
-
-pub returns-in-Null : goal.returns-in-Null
-returns-in-Null c = search (judged_integer, judged_boolean, judged_octets, judged_text, judged_bits, judged_time, judged_null, rules)
+unfolding payload
+returns-in-Time c =
+    let d = did_one _ _ c.args.at.dump c.args.x.2 c.put_record-book.ensures.1 (omega arith) (omega arith) in
+    elim c.in-Time.is [ inl z ↦ rw z d | inr z ↦ rw z d ]

@@ -1,12 +1,18 @@
-use borrow.Author.Rules.{rules}
-use Rattle.objects.proofs.RowLaws.{number_default, number_out, number_put}
+use Rattle.std.proofs.Common.{sym, ◌∙◌, refl}
+use native.Mathlib.Omega.{arith}
+use Rattle.rules.specs.Parts.{payload}
+use Rattle.objects.specs.Did.{fell}
+use Rattle.objects.specs.DidLaws.{did_one}
 use Rattle.objects.proofs.row.number_row.Goals as goal
 
 pub returns-then-is_default : goal.returns-then-is_default
-returns-then-is_default c = search (number_default, number_out, number_put, rules)
+unfolding payload
+returns-then-is_default c = rw (sym c.is_default.ensures ∙ c.if-is_default.true) (fell refl)
 
 pub returns-then-in_bounds : goal.returns-then-in_bounds
-returns-then-in_bounds c = search (number_default, number_out, number_put, rules)
+unfolding payload
+returns-then-in_bounds c = rw (sym c.is_default.ensures ∙ c.if-is_default.false, sym c.in_bounds.ensures ∙ c.if-in_bounds.true, ← c.twos.ensures) (did_one _ _ _ _ c.put_number-book.ensures.1 (omega arith) (omega arith))
 
 pub returns : goal.returns
-returns c = search (number_default, number_out, number_put, rules)
+unfolding payload
+returns c = rw (sym c.is_default.ensures ∙ c.if-is_default.false, sym c.in_bounds.ensures ∙ c.if-in_bounds.false) (fell refl)

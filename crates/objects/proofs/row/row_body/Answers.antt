@@ -1,12 +1,13 @@
 use borrow.Author.Rules.{rules}
+use Rattle.objects.specs.DidLaws.{did_left}
 use Rattle.objects.proofs.RowLaws.{row_refused, row_boolean, row_taken}
 use Rattle.objects.proofs.row.row_body.Goals as goal
 
+pub returns-in_err-n : goal.returns-in_err-n
+returns-in_err-n c = search (did_left, row_refused, rules)
+
 pub judged-requires : goal.judged-requires
-judged-requires c = search (row_refused, row_boolean, row_taken, rules)
+judged-requires c = search (row_boolean, rules)
 
-pub returns-in-Refused : goal.returns-in-Refused
-returns-in-Refused c = search (row_refused, row_boolean, row_taken, rules)
-
-pub returns-in-Took : goal.returns-in-Took
-returns-in-Took c = search (row_refused, row_boolean, row_taken, rules)
+pub returns : goal.returns
+returns c = search (row_taken, rules)

@@ -1,9 +1,11 @@
-use borrow.Author.Rules.{rules}
-use Rattle.objects.proofs.TypeLaws.{flags_took, flags_none}
+use Rattle.std.proofs.Common.{sym, ap, ◌∙◌}
+use Rattle.objects.specs.Did.{flags_set, both_flags}
 use Rattle.objects.proofs.types.both_flags.Goals as goal
 
-pub returns-in-Took : goal.returns-in-Took
-returns-in-Took c = search (flags_took, rules)
+pub returns-in-Ok : goal.returns-in-Ok
+unfolding both_flags
+returns-in-Ok c = ap flags_set (sym c.in-Ok.is ∙ c.element.ensures)
 
-pub returns-in-Refused : goal.returns-in-Refused
-returns-in-Refused c = search (flags_none, rules)
+pub returns-in-Err : goal.returns-in-Err
+unfolding both_flags
+returns-in-Err c = ap flags_set (sym c.in-Err.is ∙ c.element.ensures)

@@ -1,13 +1,11 @@
-use borrow.Author.Rules.{rules}
-use Rattle.objects.specs.DidLaws.{did_high, did_small}
-use Rattle.objects.proofs.TypeLaws.{certificate_first, certificate_second}
+use Rattle.rules.specs.Layouts as layouts
+use Rattle.objects.specs.DidLaws.{did_left, did_then, did_fails}
 use Rattle.objects.proofs.types.certificate.Goals as goal
 
-pub rest-requires : goal.rest-requires
-rest-requires c = search (did_high, did_small, rules)
+pub returns-in_err-at : goal.returns-in_err-at
+unfolding layouts.certificate
+returns-in_err-at c = record { is = λ at. did_left c.from_residual.ensures (did_fails c.in_err-at.ensures _) }
 
-pub returns-in-Fails : goal.returns-in-Fails
-returns-in-Fails c = search (certificate_first, certificate_second, rules)
-
-pub returns-in-Took : goal.returns-in-Took
-returns-in-Took c = search (certificate_second, rules)
+pub returns : goal.returns
+unfolding layouts.certificate
+returns c = record { is = λ at. did_then c.in_ok-at.ensures _ c.rest.ensures }

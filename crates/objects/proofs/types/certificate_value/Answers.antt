@@ -1,19 +1,23 @@
+use Rattle.std.proofs.Common.{refl}
 use borrow.Author.Rules.{rules}
-use Rattle.objects.specs.DidLaws.{element_fails, head_low, head_mid, head_high}
-use Rattle.objects.proofs.TypeLaws.{value_path, value_sealed}
+use Rattle.rules.specs.Layouts as layouts
+use Rattle.objects.proofs.Auto.{tests}
+use Rattle.objects.specs.DidLaws.{did_left, element_fails, element_here, head_element}
 use Rattle.objects.proofs.types.certificate_value.Goals as goal
 
-pub path-requires : goal.path-requires
-path-requires c = search (head_low, head_mid, head_high, rules)
+pub returns-in_err-x : goal.returns-in_err-x
+returns-in_err-x c = search (did_left, element_fails, rules)
 
-pub returns-then-t-eq48 : goal.returns-then-t-eq48
-returns-then-t-eq48 c = search (value_path, value_sealed, rules)
+pub path-requires : goal.path-requires
+path-requires c = (refl, head_element _ _ _ c.in_ok-x.ensures c.requires)
 
 pub sealed-requires : goal.sealed-requires
-sealed-requires c = search (head_low, head_mid, head_high, rules)
+sealed-requires c = head_element _ _ _ c.in_ok-x.ensures c.requires
 
-pub returns-in-No : goal.returns-in-No
-returns-in-No c = search (element_fails, value_path, value_sealed, rules)
+pub returns-then-x-eq48 : goal.returns-then-x-eq48
+unfolding layouts.certificate_value
+returns-then-x-eq48 c = element_here _ _ _ _ c.in_ok-x.ensures (search tests)
 
-pub returns-else-t-eq48 : goal.returns-else-t-eq48
-returns-else-t-eq48 c = search (value_path, value_sealed, rules)
+pub returns : goal.returns
+unfolding layouts.certificate_value
+returns c = element_here _ _ _ _ c.in_ok-x.ensures (search tests)

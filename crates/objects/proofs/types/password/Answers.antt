@@ -1,12 +1,13 @@
-use borrow.Author.Rules.{rules}
-use Rattle.objects.proofs.TypeLaws.{password_first, password_both, password_plain}
+use Rattle.std.proofs.Common.{sym, ◌∙◌}
+use Rattle.objects.specs.DidLaws.{did_left}
+use Rattle.objects.proofs.PasswordLaws.{password_fails, password_both, password_plain}
 use Rattle.objects.proofs.types.password.Goals as goal
 
+pub returns-in_err-n : goal.returns-in_err-n
+returns-in_err-n c = did_left c.from_residual.ensures (password_fails _ _ c.in_err-n.ensures)
+
 pub returns-then-both_flags : goal.returns-then-both_flags
-returns-then-both_flags c = search (password_first, password_both, rules)
+returns-then-both_flags c = password_both _ _ c.in_ok-n.ensures (sym c.both_flags.ensures ∙ c.if-both_flags.true)
 
-pub returns-in-Fails : goal.returns-in-Fails
-returns-in-Fails c = search (password_first, rules)
-
-pub returns-else-both_flags : goal.returns-else-both_flags
-returns-else-both_flags c = search (password_plain, rules)
+pub returns : goal.returns
+returns c = password_plain _ _ c.in_ok-n.ensures (sym c.both_flags.ensures ∙ c.if-both_flags.false)

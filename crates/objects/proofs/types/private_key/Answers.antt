@@ -1,19 +1,15 @@
-use borrow.Author.Rules.{rules}
-use Rattle.objects.specs.DidLaws.{did_high, did_small}
-use Rattle.objects.proofs.TypeLaws.{private_first, private_second, private_third}
+use Rattle.rules.specs.Layouts as layouts
+use Rattle.objects.specs.DidLaws.{did_left, did_then, did_fails}
 use Rattle.objects.proofs.types.private_key.Goals as goal
 
-pub components-requires : goal.components-requires
-components-requires c = search (did_high, did_small, rules)
+pub returns-in_err-at : goal.returns-in_err-at
+unfolding layouts.private_key
+returns-in_err-at c = record { is = λ at. did_left c.from_residual.ensures (did_fails (did_fails c.in_err-at.ensures _) _) }
 
-pub rest_in-requires : goal.rest_in-requires
-rest_in-requires c = (did_high c.components.ensures c.in-Took-components.is, c.requires.1, c.requires.2, did_small c.components.ensures c.in-Took-components.is)
+pub returns-in_err-at-2 : goal.returns-in_err-at-2
+unfolding layouts.private_key
+returns-in_err-at-2 c = record { is = λ at. did_left c.from_residual-in_err-at-2.ensures (did_fails (did_then c.in_ok-at.ensures _ c.in_err-at-2.ensures) _) }
 
-pub returns-in-Fails : goal.returns-in-Fails
-returns-in-Fails c = private_first _ c.due_path.ensures c.in-Fails.is
-
-pub returns-in-Fails-components : goal.returns-in-Fails-components
-returns-in-Fails-components c = private_second _ c.due_path.ensures c.in-Took.is c.components.ensures c.in-Fails-components.is
-
-pub returns-in-Took-components : goal.returns-in-Took-components
-returns-in-Took-components c = private_third _ c.due_path.ensures c.in-Took.is c.components.ensures c.in-Took-components.is c.rest_in.ensures
+pub returns : goal.returns
+unfolding layouts.private_key
+returns c = record { is = λ at. did_then (did_then c.in_ok-at.ensures _ c.in_ok-at-2.ensures) _ c.rest_in.ensures }

@@ -1,17 +1,14 @@
-use Rattle.rules.proofs.SameLaws.{same_start, same_not, same_differ, same_next, same_all}
+use Rattle.std.specs.Prelude.{ℕ, ◌-◌, List, Bool, ◌≡◌, take, drop, eqb}
+use Rattle.std.proofs.Common.{◌∙◌}
+use Rattle.std.proofs.Math.Seq.{slice}
+use Rattle.std.specs.Cmp.Lexicographic.{pointwise}
+use Rattle.elements.specs.Lists.{lent}
+use Rattle.rules.specs.Files.{equal}
+use Rattle.rules.specs.Compared.{compared}
 use Rattle.rules.proofs.bytes.same_bytes.Goals as goal
 
-pub returns-then-j-i : goal.returns-then-j-i
-returns-then-j-i c = search same_not
-
-pub loop-x-init : goal.loop-x-init
-loop-x-init c = search same_start
-
-pub returns-then-s-x : goal.returns-then-s-x
-returns-then-s-x c = search same_differ
-
-pub loop-x-preserved : goal.loop-x-preserved
-loop-x-preserved c = search same_next
+parts : (s t : List ℕ) (i j k l : ℕ) {r : Bool} → r ≡ pointwise eqb (take (j - i) (drop i s)) (take (l - k) (drop k t)) → r ≡ equal (slice i j s) (slice k l t)
+parts s t i j k l e = rw (← lent i j s, ← lent k l t) (e ∙ compared (take (j - i) (drop i s)) (take (l - k) (drop k t)))
 
 pub returns : goal.returns
-returns c = search same_all
+returns c = parts c.args.s.now c.args.t.now c.args.i c.args.j c.args.k c.args.l c.eq.ensures

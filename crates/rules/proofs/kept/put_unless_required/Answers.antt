@@ -6,7 +6,4 @@ pub returns-in-Required : goal.returns-in-Required
 returns-in-Required c = search (unless_required_lem, rules)
 
 pub returns-in-Optional : goal.returns-in-Optional
-returns-in-Optional c = search (unless_optional, rules)
-
-pub returns-in-Default : goal.returns-in-Default
-returns-in-Default c = search (unless_default, rules)
+returns-in-Optional c = search (unless_optional, unless_default, rules)

@@ -1,13 +1,17 @@
-use mathlib.Core.Path.{refl}
-use borrow.Author.Rules.{rules}
-use Rattle.objects.specs.DidLaws.{did_high, did_small, did_fails, did_then}
+use Rattle.objects.specs.DidLaws.{did_left, did_fails, did_then}
 use Rattle.templates.proofs.ddo.discretionary.Goals as goal
 
-pub rest_in-requires : goal.rest_in-requires
-rest_in-requires c = search (did_high, did_small, did_fails, did_then, refl, rules)
+pub returns-in_err-odf : goal.returns-in_err-odf
+returns-in_err-odf c = did_left c.from_residual-in_err-odf.ensures (did_fails (did_fails (did_fails (did_fails (did_then (c.in_ok-provider.ensures) _ c.in_err-odf.ensures) _) _) _) _)
 
-pub returns-in-Fails : goal.returns-in-Fails
-returns-in-Fails c = search (did_high, did_small, did_fails, did_then, rules)
+pub returns-in_err-info : goal.returns-in_err-info
+returns-in_err-info c = did_left c.from_residual-in_err-info.ensures (did_fails (did_fails (did_fails (did_then (did_then (c.in_ok-provider.ensures) _ c.in_ok-odf.ensures) _ c.in_err-info.ensures) _) _) _)
 
-pub returns-in-Took : goal.returns-in-Took
-returns-in-Took c = search (did_high, did_small, did_fails, did_then, rules)
+pub returns-in_err-aid : goal.returns-in_err-aid
+returns-in_err-aid c = did_left c.from_residual-in_err-aid.ensures (did_fails (did_fails (did_then (did_then (did_then (c.in_ok-provider.ensures) _ c.in_ok-odf.ensures) _ c.in_ok-info.ensures) _ c.in_err-aid.ensures) _) _)
+
+pub returns-in_err-set : goal.returns-in_err-set
+returns-in_err-set c = did_left c.from_residual-in_err-set.ensures (did_fails (did_then (did_then (did_then (did_then (c.in_ok-provider.ensures) _ c.in_ok-odf.ensures) _ c.in_ok-info.ensures) _ c.in_ok-aid.ensures) _ c.in_err-set.ensures) _)
+
+pub returns : goal.returns
+returns c = did_then (did_then (did_then (did_then (did_then (c.in_ok-provider.ensures) _ c.in_ok-odf.ensures) _ c.in_ok-info.ensures) _ c.in_ok-aid.ensures) _ c.in_ok-set.ensures) _ c.rest_in.ensures

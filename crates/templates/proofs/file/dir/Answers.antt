@@ -1,13 +1,11 @@
-use Rattle.objects.specs.DidLaws.{did_high, did_small}
-use Rattle.templates.proofs.TemplateLaws.{dir_fails, dir_filled}
-use borrow.Author.Rules.{rules}
+use Rattle.objects.specs.DidLaws.{did_left, did_fails, did_then}
+use Rattle.rules.specs.Files.{dir}
 use Rattle.templates.proofs.file.dir.Goals as goal
 
-pub fill-requires : goal.fill-requires
-fill-requires c = search (did_high, did_small, dir_fails, dir_filled, rules)
+pub returns-in_err-at : goal.returns-in_err-at
+unfolding dir
+returns-in_err-at c = did_left c.from_residual.ensures (did_fails c.in_err-at.ensures _)
 
-pub returns-in-Fails : goal.returns-in-Fails
-returns-in-Fails c = search (did_high, did_small, dir_fails, dir_filled, rules)
-
-pub returns-in-Took : goal.returns-in-Took
-returns-in-Took c = search (did_high, did_small, dir_fails, dir_filled, rules)
+pub returns : goal.returns
+unfolding dir
+returns c = did_then c.in_ok-at.ensures _ c.fill.ensures

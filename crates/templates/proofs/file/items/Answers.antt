@@ -1,21 +1,19 @@
-use Rattle.templates.proofs.TemplateLaws.{turning_start, turning_on, turning_fails, turning_less, turning_next, turning_all}
+use Rattle.objects.specs.DidLaws.{did_left}
+use Rattle.templates.proofs.TemplateLaws.{turning_start, turning_fails, turning_less, turning_next, turning_all}
 use borrow.Author.Rules.{rules}
 use Rattle.templates.proofs.file.items.Goals as goal
 
 pub loop-out-init : goal.loop-out-init
 loop-out-init c = search (turning_start, rules)
 
-pub item-requires : goal.item-requires
-item-requires c = search (turning_on, rules)
-
-pub returns-in-Fails : goal.returns-in-Fails
-returns-in-Fails c = search (turning_fails, rules)
+pub returns-in_err-at : goal.returns-in_err-at
+returns-in_err-at c = did_left c.from_residual.ensures (turning_fails c.loop-out.invariant c.goes_on.ensures c.loop-out-test.true c.item.ensures.0 c.in_err-at.was)
 
 pub loop-out-smaller : goal.loop-out-smaller
-loop-out-smaller c = search (turning_less, rules)
+loop-out-smaller c = turning_less c.loop-out.invariant c.goes_on.ensures c.loop-out-test.true c.item.ensures.0 c.in_ok-at.was c.item.ensures.1
 
 pub loop-out-preserved : goal.loop-out-preserved
-loop-out-preserved c = search (turning_next, rules)
+loop-out-preserved c = turning_next c.loop-out.invariant c.goes_on.ensures c.loop-out-test.true c.item.ensures.0 c.in_ok-at.was c.item.ensures.1
 
 pub returns : goal.returns
-returns c = search (turning_all, rules)
+returns c = turning_all c.loop-out.invariant c.goes_on.ensures c.loop-out-test.false

@@ -1,5 +1,5 @@
-use borrow.Author.Rules.{rules}
 use Rattle.templates.proofs.TemplateLaws.{starting, starting_over, starting_differs, starting_next, starting_all}
+use borrow.Author.Rules.{rules}
 use Rattle.templates.proofs.template.starts.Goals as goal
 
 pub loop-i-init : goal.loop-i-init

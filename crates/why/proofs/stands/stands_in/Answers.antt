@@ -1,8 +1,5 @@
-use Rattle.why.proofs.StandsLaws.{standing_none, standing_closed, standing_found, standing_other, standing_next, standing_all}
+use Rattle.why.proofs.StandsLaws.{standing_closed, standing_found, standing_other, standing_next, standing_all}
 use Rattle.why.proofs.stands.stands_in.Goals as goal
-
-pub loop-j-init : goal.loop-j-init
-loop-j-init c = search standing_none
 
 pub returns-then-is_closing : goal.returns-then-is_closing
 returns-then-is_closing c = search standing_closed

@@ -1,17 +1,12 @@
-use Rattle.makers.specs.MadeLaws.{then_long, then_took, made_high, made_room, makes_same}
 use mathlib.Core.List.{[], ◌∷◌}
 use Rattle.rules.specs.Render.{r_all, r_entry, r_fill, r_od}
-use borrow.Author.Rules.{rules}
+use Rattle.makers.specs.MadeLaws.{made_left_by, next_long, next_took}
 use Rattle.writer.proofs.make_entry.make_od.Goals as goal
 
-pub make_fill-requires : goal.make_fill-requires
+pub returns-in_err-made : goal.returns-in_err-made
 unfolding r_od
-make_fill-requires c = search (then_long (r_all (0x0110 ∷ []) r_entry) (r_fill 0x0107), then_took (r_all (0x0110 ∷ []) r_entry) (r_fill 0x0107), made_high, made_room, makes_same, rules)
+returns-in_err-made c = made_left_by (next_long (r_all (0x0110 ∷ []) r_entry) (r_fill 0x0107) c.in_err-made.ensures) c.from_residual.ensures
 
-pub returns-in-Long : goal.returns-in-Long
+pub returns : goal.returns
 unfolding r_od
-returns-in-Long c = search (then_long (r_all (0x0110 ∷ []) r_entry) (r_fill 0x0107), then_took (r_all (0x0110 ∷ []) r_entry) (r_fill 0x0107), made_high, made_room, makes_same, rules)
-
-pub returns-in-Took : goal.returns-in-Took
-unfolding r_od
-returns-in-Took c = search (then_long (r_all (0x0110 ∷ []) r_entry) (r_fill 0x0107), then_took (r_all (0x0110 ∷ []) r_entry) (r_fill 0x0107), made_high, made_room, makes_same, rules)
+returns c = next_took (r_all (0x0110 ∷ []) r_entry) (r_fill 0x0107) c.in_ok-made.ensures c.make_fill.ensures

@@ -4,9 +4,9 @@ use Rattle.makers.specs.MadeLaws.{from_none, from_some}
 use borrow.Author.Rules.{rules}
 use Rattle.writer.proofs.make_linear.make_linear.Goals as goal
 
-pub returns-then-b-i : goal.returns-then-b-i
+pub returns-then-b-made : goal.returns-then-b-made
 unfolding r_linear
-returns-then-b-i c = search (from_none (λ k p. r_all (0x011a ∷ []) r_record_in), rules)
+returns-then-b-made c = search (from_none (λ k p. r_all (0x011a ∷ []) r_record_in), rules)
 
 pub returns : goal.returns
 unfolding r_linear

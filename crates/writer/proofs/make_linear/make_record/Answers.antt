@@ -1,12 +1,13 @@
 use mathlib.Core.Path.{refl}
 use Rattle.elements.specs.Put.{le16}
-use Rattle.makers.specs.MadeLaws.{made_ended, front_grows, closed_onward}
-use Rattle.writer.proofs.MakeLinearLaws.{record_made}
+use Rattle.rules.specs.Render.{r_directory, r_record_in}
+use Rattle.makers.specs.MadeLaws.{enclosed, enclosed_onward, front_grows}
+use Rattle.writer.proofs.BehindLaws.{put_ends}
 use borrow.Author.Rules.{rules}
 use Rattle.writer.proofs.make_linear.make_record.Goals as goal
 
-pub lengthed-requires : goal.lengthed-requires
-lengthed-requires c = search (made_ended, rules)
-
 pub returns : goal.returns
-returns c = (search (record_made, rules), search (closed_onward, front_grows 2 le16 (λ n. refl), rules))
+unfolding r_directory r_record_in
+returns c =
+    let put = c.behind.ensures le16 (λ n. refl, λ out o n out' p. search (put_ends, rules)) in
+    (enclosed r_directory put (λ x out m out' g. search rules), enclosed_onward r_directory (front_grows 2 le16 (λ n. refl)) put (λ x out m out' g. search rules))

@@ -1,16 +1,13 @@
-use Rattle.makers.specs.MadeLaws.{made_ended, within_made, when_no, next_there}
+use Rattle.makers.specs.MadeLaws.{next_there, when_no}
 use Rattle.writer.proofs.MakeTemplateLaws.{discretionary_here}
 use borrow.Author.Rules.{rules}
 use Rattle.writer.proofs.make_template.due_discretionary.Goals as goal
 
-pub record_end-e-requires : goal.record_end-e-requires
-record_end-e-requires c = search (next_there, rules)
-
-pub closed-requires : goal.closed-requires
-closed-requires c = search (made_ended, rules)
+pub record_end-next-requires : goal.record_end-next-requires
+record_end-next-requires c = search (next_there, rules)
 
 pub returns-then-is_next : goal.returns-then-is_next
-returns-then-is_next c = search (discretionary_here, within_made, rules)
+returns-then-is_next c = discretionary_here c.is_next.ensures c.if-is_next.true c.record_end-next.ensures (search rules)
 
 pub returns : goal.returns
 returns c = search (when_no, rules)

@@ -1,15 +1,11 @@
 use Rattle.rules.specs.Render.{r_fill}
-use Rattle.makers.specs.MadeLaws.{then_long, then_took, made_high, made_room, made_small}
 use Rattle.writer.specs.Composed.{r_items}
+use Rattle.makers.specs.MadeLaws.{made_left_by, next_long, next_took}
 use Rattle.writer.proofs.MakeTemplateLaws.{dir_made}
-use borrow.Author.Rules.{rules}
 use Rattle.writer.proofs.make_template.make_dir.Goals as goal
 
-pub make_fill-requires : goal.make_fill-requires
-make_fill-requires c = search (made_high, made_room, made_small, rules)
+pub returns-in_err-made : goal.returns-in_err-made
+returns-in_err-made c = dir_made c.record_end-next.ensures (made_left_by (next_long r_items (r_fill 0x0212) c.in_err-made.ensures) c.from_residual.ensures)
 
-pub returns-in-Long : goal.returns-in-Long
-returns-in-Long c = search (dir_made, then_long r_items (r_fill 0x0212), rules)
-
-pub returns-in-Took : goal.returns-in-Took
-returns-in-Took c = search (dir_made, then_took r_items (r_fill 0x0212), rules)
+pub returns : goal.returns
+returns c = dir_made c.record_end-next.ensures (next_took r_items (r_fill 0x0212) c.in_ok-made.ensures c.make_fill.ensures)

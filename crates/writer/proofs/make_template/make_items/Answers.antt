@@ -1,22 +1,6 @@
-use Rattle.makers.specs.MadeLaws.{among_there}
-use Rattle.makers.specs.ManyLaws.{repeating_start, repeating_all, repeating_long, repeating_next, onward_less}
+use Rattle.writer.specs.Composed.{r_item}
 use borrow.Author.Rules.{rules}
 use Rattle.writer.proofs.make_template.make_items.Goals as goal
 
-pub loop-out-init : goal.loop-out-init
-loop-out-init c = search (repeating_start, rules)
-
-pub make_item-requires : goal.make_item-requires
-make_item-requires c = search (among_there, rules)
-
-pub returns-in-Long : goal.returns-in-Long
-returns-in-Long c = search (repeating_long, rules)
-
-pub loop-out-smaller : goal.loop-out-smaller
-loop-out-smaller c = search (onward_less, rules)
-
-pub loop-out-preserved : goal.loop-out-preserved
-loop-out-preserved c = search (repeating_next, onward_less, rules)
-
-pub returns : goal.returns
-returns c = search (repeating_all, rules)
+pub make_each-requires-clause-makes : goal.make_each-requires-clause-makes
+make_each-requires-clause-makes c = (r_item, λ x out r out' e g. search rules)

@@ -1,10 +1,8 @@
-use Rattle.makers.specs.MadeLaws.{made_ended, within_made, onward_closed}
+use Rattle.makers.specs.MadeLaws.{enclosed, onward_behind}
+use Rattle.writer.specs.Composed.{inside_template}
 use Rattle.writer.proofs.MakeTemplateLaws.{template_made}
 use borrow.Author.Rules.{rules}
 use Rattle.writer.proofs.make_template.make_template.Goals as goal
 
-pub closed-requires : goal.closed-requires
-closed-requires c = search (made_ended, rules)
-
 pub returns : goal.returns
-returns c = (search (template_made, within_made, rules), search (onward_closed, rules))
+returns c = let made = enclosed inside_template {b = c.args.b.now} c.within.ensures (λ x out m out' g. search rules) in (template_made c.record_end-next.ensures made, onward_behind c.record_end-next.ensures made)

@@ -1,16 +1,14 @@
-use Rattle.makers.specs.MadeLaws.{made_ended, closed_next, closed_steps}
-use Rattle.writer.proofs.RenderLaws.{framing_made, two_long, two_took}
+use Rattle.rules.specs.Render.{r_od}
+use Rattle.makers.specs.MadeLaws.{enclosed, made_left_by, made_steps, making}
+use Rattle.writer.proofs.RenderLaws.{two_long, two_took}
 use borrow.Author.Rules.{rules}
 use Rattle.writer.proofs.render.make_rest.Goals as goal
 
-pub fronted-requires : goal.fronted-requires
-fronted-requires c = search (made_ended, rules)
+pub returns-in_err-made : goal.returns-in_err-made
+returns-in_err-made c = made_left_by (two_long (enclosed r_od c.in_err-made.ensures (λ x out m out' g. search rules))) c.from_residual.ensures
 
 pub make_files-requires : goal.make_files-requires
-make_files-requires c = (search (closed_steps, rules), closed_next c.opened.ensures.1 c.make_od-made.ensures c.fronted.ensures c.in-Took.is (search rules) (search rules))
+make_files-requires c = let made = enclosed r_od {b = c.args.b.now} c.in_ok-made.ensures (λ x out m out' g. search rules) in (made_steps made, making made (search rules) (search rules))
 
-pub returns-in-Long : goal.returns-in-Long
-returns-in-Long c = search (two_long, framing_made, rules)
-
-pub returns-in-Took : goal.returns-in-Took
-returns-in-Took c = search (two_took, framing_made, rules)
+pub returns : goal.returns
+returns c = two_took (enclosed r_od c.in_ok-made.ensures (λ x out m out' g. search rules)) c.make_files.ensures

@@ -1,6 +1,0 @@
-use borrow.Author.Rules.{rules}
-use Rattle.elements.specs.PutLaws.{put_then}
-use Rattle.elements.proofs.put.put_le16.Goals as goal
-
-pub returns : goal.returns
-returns c = search (put_then, rules)

@@ -1,0 +1,6 @@
+use borrow.Author.Rules.{rules}
+use Rattle.elements.specs.PutLaws.{put_then}
+use Rattle.elements.proofs.store.put_le16.Goals as goal
+
+pub returns : goal.returns
+returns c = search (put_then, rules)
