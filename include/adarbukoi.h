@@ -6,7 +6,7 @@
  *
  * STACK: a call takes less than 256 KiB of the caller's stack, and more than 128: a thread of 128 KiB is too small.
  * THREADS: no function keeps or shares anything, so any number of calls may run at once, each on memory of its own.
- * No function allocates; memcpy, memmove and memset are the only functions of the C library that the code calls.
+ * No function allocates; memcpy and memset are the only functions of the C library that the code calls.
  *
  * Link with libadarbukoi.a, which `tools/library` writes to target/staticlib/; README.md says how to install both.
  */

@@ -1,44 +1,48 @@
--- A part that is copied in one run, as far as there is a place for it.
-use Rattle.std.specs.Prelude.{ℕ, ◌+◌, ◌-◌, ◌≤◌, ◌≡◌, refl, List, ◌++◌, Bool, true, false, length, take, drop, ltb}
-use Rattle.std.proofs.Common.{sym, ap, ◌∙◌, append_assoc, arith}
-use Rattle.std.proofs.Math.Seq.{slice, slice_empty, length-slice, drop-drop}
-use Rattle.std.proofs.lemmas.List.Edits.{sets-eq}
-use borrow.Rule.Slice.PartMut.{put_mid}
+-- A part that is put byte by byte, as far as there is a place for it.
+use Rattle.std.specs.Prelude.{ℕ, suc, ◌+◌, ◌-◌, ◌≤◌, ◌<◌, ◌≡◌, refl, List, [], ◌∷◌, ◌++◌, Bool, true, false, length, take, ltb, get_or, set}
+use Rattle.std.proofs.Common.{arith, take-suc, length-take-le}
+use Rattle.std.proofs.Math.Seq.{slice, length-slice, drop-append-le}
 use borrow.Author.Tests.{ltb-true, ltb-false}
-use Rattle.elements.specs.Lists.{join, lent}
+use Rattle.elements.specs.Lists.{join}
 use Rattle.elements.specs.Put.{Put, Places}
-use Rattle.elements.specs.PutLaws.{put_none, put_over}
+use Rattle.elements.specs.PutLaws.{put_put, put_one, put_over}
 
--- what took the place of k elements was put
-put_mid_put : (a y : List ℕ) (o k : ℕ) → length y ≡ k → o + k ≤ length a → Put a (put_mid o k a y) o (o + k) y
-put_mid_put a y o k e h = record {
-  at = omega arith;
-  to = sym (append_assoc (take o a) y (drop k (drop o a))) ∙ ap (λ l. take o a ++ y ++ l) (drop-drop k o a) ∙ rw (← e) (sym (sets-eq y a o (omega arith)));
-}
+-- a part of a list with one element more
+slice_snoc : (f t : ℕ) (l : List ℕ) → f ≤ t → t < length l → slice f (t + 1) l ≡ slice f t l ++ (get_or l t 0 ∷ [])
+slice_snoc f t l h k =
+    let e : t + 1 ≡ suc t = omega arith in
+    rw (e, take-suc l t 0 k)
+    (drop-append-le f (take t l) (get_or l t 0 ∷ []) (omega (arith, length-take-le t l (omega arith))))
 
-module _ {a : List ℕ} (s : List ℕ) {o f t n : ℕ} (w : Places (length a) o (t - f) n) (h : f ≤ t) (k : t ≤ length s) where
-  -- what was put up to a place stands for the whole, where the rest has none
-  whole : {b : List ℕ} → Put a b o (o + n) (slice f (f + n) s) → Put a b o (o + (t - f)) (slice f t s)
-  whole {b} g = go (ltb n (t - f)) refl
+-- of n bytes of s from f on, the first i are put from o on
+pub record Partly (a b s : List ℕ) (o f i n : ℕ) : Type 0 where
+  pub upto : i ≤ n
+  pub put : Put a b o (o + i) (slice f (f + i) s)
+
+module _ {a s : List ℕ} {o f t n : ℕ} (w : Places (length a) o (t - f) n) (h : f ≤ t) (k : t ≤ length s) where
+  -- one byte more
+  pub partly_more : {b : List ℕ} {i : ℕ} → Partly a b s o f i n → i < n → Partly a (set b (o + i) (get_or s (f + i) 0)) s o f (i + 1) n
+  partly_more {b} {i} g m =
+      let p : o + i + 1 ≡ o + (i + 1) = omega arith in
+      let q : f + i + 1 ≡ f + (i + 1) = omega arith in
+      record {
+        upto = omega arith;
+        put = rw (← p, ← q, slice_snoc f (f + i) s (omega arith) (omega (arith, w.most))) (put_put g.put (put_one b (o + i) (get_or s (f + i) 0)));
+      }
+
+  -- after the last that has a place
+  pub partly_all : {b : List ℕ} {i : ℕ} → Partly a b s o f i n → n ≤ i → Put a b o (o + (t - f)) (slice f t s)
+  partly_all {b} {i} g m = go (ltb n (t - f)) refl
     where
+      same : i ≡ n
+      same = omega (arith, g.upto)
+
       go : (x : Bool) → ltb n (t - f) ≡ x → Put a b o (o + (t - f)) (slice f t s)
       go true e =
-          let q = put_over g (w.all (ltb-true n (t - f) e)) (slice (f + n) t s) in
-          let r : o + n + length (slice (f + n) t s) ≡ o + (t - f) = omega (arith, length-slice (f + n) t s k, w.most) in
-          rw (r, join f (f + n) t s (omega arith) (omega (arith, w.most))) at q
+          let q = put_over g.put (omega (arith, same, w.all (ltb-true n (t - f) e))) (slice (f + i) t s) in
+          let r : o + i + length (slice (f + i) t s) ≡ o + (t - f) = omega (arith, length-slice (f + i) t s k, w.most, same) in
+          rw (r, join f (f + i) t s (omega arith) (omega (arith, w.most, same))) at q
       go false e =
-          let q : f + n ≡ t = omega (arith, w.most, ltb-false n (t - f) e) in
-          let r : o + n ≡ o + (t - f) = omega (arith, w.most, ltb-false n (t - f) e) in
-          rw (q, r) at g
-
-  -- nothing has a place
-  pub part_none : n ≡ 0 → Put a a o (o + (t - f)) (slice f t s)
-  part_none e = whole (rw e (let z : f + 0 ≡ f = omega arith in let q : o + 0 ≡ o = omega arith in rw (z, q, slice_empty) (put_none a o)))
-
-  -- what has a place is copied
-  pub part_put : (n ≡ 0 → ⊥) → {y : List ℕ} → y ≡ take (f + n - f) (drop f s) → Put a (put_mid o (o + n - o) a y) o (o + (t - f)) (slice f t s)
-  part_put e {y} q =
-      let r : y ≡ slice f (f + n) s = q ∙ lent f (f + n) s in
-      let z : o + n - o ≡ n = omega arith in
-      let l : length (slice f (f + n) s) ≡ n = length-slice f (f + n) s (omega (arith, w.most)) ∙ (omega arith) in
-      whole (rw (r, z) (put_mid_put a (slice f (f + n) s) o n l (w.inside (omega arith))))
+          let q : f + i ≡ t = omega (arith, w.most, same, ltb-false n (t - f) e) in
+          let r : o + i ≡ o + (t - f) = omega (arith, w.most, same, ltb-false n (t - f) e) in
+          rw (q, r) at g.put

@@ -45,15 +45,14 @@ fn places(len: usize, o: usize, n: usize) -> usize
     n
 }
 
-// The bytes of s from a to e: what has a place is copied in one run.
+// The bytes of s from a to e, as far as there is a place for them.
 pub fn put_part(out: &mut [u8], o: usize, s: &[u8], a: usize, e: usize) -> usize
     requires { (a ≤ e) × (e ≤ length s.now) × (o < 2 ^ 63) }
     ensures { (result ≡ o + (e - a)) × Put out.old out.new o result (slice a e s.now) }
 {
     let n = places(out.len(), o, e - a);
-    if n == 0 {
-        return o + (e - a);
+    for i in 0..n {
+        out[o + i] = s[a + i];
     }
-    out[o..o + n].copy_from_slice(&s[a..a + n]);
     o + (e - a)
 }

@@ -2,7 +2,7 @@ ghost use Rattle.std.specs.Prelude.{◌≤◌, ◌≡◌, length};
 ghost use Rattle.layouts.specs.Service.{Gives, ReadTold, WriteTold};
 
 use crate::accept::tried;
-use elements::{Fault, Refusal};
+use elements::{Fault, Refusal, put_part};
 use reader::read_into;
 
 // These bytes into the lent slice, if it has room for them.
@@ -13,7 +13,7 @@ fn give(from: &[u8], lent: &mut [u8]) -> Result<usize, Refusal>
     if lent.len() < n {
         return Err(Refusal(Fault::NoRoom, n));
     }
-    lent[..n].copy_from_slice(from);
+    put_part(lent, 0, from, 0, n);
     Ok(n)
 }
 

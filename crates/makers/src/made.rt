@@ -20,7 +20,12 @@ fn move_up(out: &mut [u8], from: usize, to: usize, by: usize)
     requires { (from ≤ to) × (to + by ≤ length out.old) × (length out.old ≤ 32768) }
     ensures { Moved out.old out.new from to by }
 {
-    out.copy_within(from..to, from + by);
+    if by == 0 {
+        return;
+    }
+    for k in (from..to).rev() {
+        out[k + by] = out[k];
+    }
 }
 
 // The bytes of the header of an element with so many bytes of contents.

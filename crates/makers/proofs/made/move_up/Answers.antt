@@ -1,5 +1,16 @@
-use Rattle.makers.specs.MadeLaws.{moved_copy}
+use Rattle.makers.specs.MadeLaws.{moved_same}
+use Rattle.makers.specs.Shifts.{shifting_start, shifting_more, shifting_done}
+use borrow.Author.Rules.{rules}
 use Rattle.makers.proofs.made.move_up.Goals as goal
 
+pub returns-then-by-eq0 : goal.returns-then-by-eq0
+returns-then-by-eq0 c = search (moved_same, rules)
+
+pub loop-k-init : goal.loop-k-init
+loop-k-init c = search (shifting_start, rules)
+
+pub loop-k-preserved : goal.loop-k-preserved
+loop-k-preserved c = search (shifting_more, rules)
+
 pub returns : goal.returns
-returns c = moved_copy _ _ _ _ c.requires.0 c.requires.1 c.copy_within.ensures.after
+returns c = search (shifting_done, rules)
