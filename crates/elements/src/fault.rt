@@ -1,4 +1,4 @@
-ghost use Rattle.std.specs.Prelude.{◌≡◌};
+ghost use Rattle.std.specs.Prelude.{◌≡◌, decimal, Some};
 ghost use Rattle.elements.specs.Faults.{number_of};
 
 use std::fmt;
@@ -131,6 +131,8 @@ pub fn number_of(f: Fault) -> u32
 }
 
 impl fmt::Display for Fault {
+    ghost output = { λ f. Some (decimal (number_of f)) };
+
     fn fmt<W: fmt::Write>(&self, f: &mut fmt::Formatter<W>) -> fmt::Result {
         fmt::Display::fmt(&u32::from(*self), f)
     }

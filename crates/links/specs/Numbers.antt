@@ -1,5 +1,5 @@
 -- The numbers of links and of what answers them.
-use Rattle.std.specs.Prelude.{ℕ, ◌≡◌, ◌<◌, ◌⊎◌, Option, Some, None, Result, MatchResult}
+use Rattle.std.specs.Prelude.{ℕ, ◌≡◌, ◌<◌, ◌⊎◌, List, Option, Some, None, Result, MatchResult, codes}
 use Rattle.links.specs.declared.sorts.Link.{Link}
 use Rattle.links.specs.declared.sorts.Link.TheVariants.{Auth, Condition, Cert}
 use Rattle.links.specs.declared.sorts.NoLink.{NoLink}
@@ -10,6 +10,12 @@ abbrev pub number_of : Link → ℕ
 number_of Auth = 1
 number_of Condition = 2
 number_of Cert = 3
+
+-- "auth", "condition", "cert": by which a link is shown
+abbrev pub name_of : Link → List ℕ
+name_of Auth = codes "auth"
+name_of Condition = codes "condition"
+name_of Cert = codes "cert"
 
 -- 0 is no link
 abbrev pub number_if : Option Link → ℕ

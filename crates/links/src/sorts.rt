@@ -1,8 +1,8 @@
 // What a record is to the links: by its kind and its entry's tag.
-ghost use Rattle.std.specs.Prelude.{◌≡◌};
+ghost use Rattle.std.specs.Prelude.{◌≡◌, Some};
 ghost use Rattle.rules.specs.Blocks.{closing};
 ghost use Rattle.links.specs.Links.{certifying, states, answering, id_kind};
-ghost use Rattle.links.specs.Numbers.{number_of, number_if, Names};
+ghost use Rattle.links.specs.Numbers.{number_of, number_if, name_of, Names};
 
 use std::fmt;
 
@@ -46,6 +46,8 @@ impl TryFrom<u32> for Link {
 }
 
 impl fmt::Display for Link {
+    ghost output = { λ link. Some (name_of link) };
+
     fn fmt<W: fmt::Write>(&self, f: &mut fmt::Formatter<W>) -> fmt::Result {
         f.write_str(match self {
             Link::Auth => "auth",
