@@ -1,6 +1,7 @@
 // The records of a dump or a book.
-ghost use Rattle.std.specs.Prelude.{◌-◌, ◌≤◌, length};
+ghost use Rattle.std.specs.Prelude.{◌≡◌, ◌==◌, ◌+◌, ◌-◌, ◌≤◌, ◌<◌, ◌&&◌, nat_le, length, MatchOption};
 ghost use Rattle.std.specs.Iterator.{at_most};
+ghost use Rattle.lister.specs.Records.{RecordTold};
 
 use rules::record_end;
 
@@ -15,12 +16,16 @@ pub struct Record<'a> {
 
 impl Record<'_> {
     // "0 for EF.OD, then 1 upward in dump order": whether a dump record of this kind is numbered.
-    pub fn is_file(&self) -> bool {
+    pub fn is_file(&self) -> bool
+        ensures { result ≡ (nat_le 2 self.now.kind && nat_le self.now.kind 4) }
+    {
         matches!(self.kind, 2..=4)
     }
 
     // Whether it is the first of an object's in a book.
-    pub fn is_object(&self) -> bool {
+    pub fn is_object(&self) -> bool
+        ensures { result ≡ self.now.kind == 0x0120 }
+    {
         self.kind == 0x0120
     }
 }
@@ -35,6 +40,10 @@ pub struct Records<'a> {
 
 impl<'a> Iterator for Records<'a> {
     type Item = Record<'a>;
+
+    ghost next_gives = { λ s r t. (t.bytes.now ≡ s.bytes.now)
+        × MatchOption r ((length s.bytes.now < s.next + 4) × (t.next ≡ s.next))
+        (λ x. RecordTold s.bytes.now s.next x.start x.kind x.payload.now t.next) };
 
     ghost remaining = { λ s. at_most (length s.bytes.now - s.next) };
 
@@ -59,6 +68,7 @@ impl<'a> Iterator for Records<'a> {
 // The records from the start on.
 pub fn records_of(bytes: &[u8]) -> Records<'_>
     requires { length bytes.now ≤ 131072 }
+    ensures { (result.bytes.now ≡ bytes.now) × (result.next ≡ 0) }
 {
     Records { bytes, next: 0 }
 }
