@@ -1,5 +1,5 @@
 // Where a card's objects stand: number, class, file, path, offset in the file, place in the dump.
-ghost use Rattle.std.specs.Prelude.{◌≤◌, length};
+ghost use Rattle.std.specs.Prelude.{◌+◌, ◌≤◌, length, IfSome};
 
 use crate::records::{Record, records_of};
 use std::{fmt, io};
@@ -36,6 +36,7 @@ impl fmt::Display for Hex<'_> {
 // The file with this number, in the dump.
 fn file_at(dump: &[u8], n: usize) -> Option<Record<'_>>
     requires { length dump.now ≤ 131072 }
+    ensures { IfSome result (λ file. file.start + 4 ≤ length dump.now) }
 {
     records_of(dump).filter(Record::is_file).nth(n)
 }

@@ -1,7 +1,5 @@
 // The records of a dump or a book.
-ghost use Rattle.std.specs.Prelude.{◌≡◌, ◌==◌, ◌+◌, ◌-◌, ◌≤◌, ◌<◌, ◌&&◌, nat_le, length, MatchOption};
-ghost use Rattle.std.specs.Iterator.{at_most};
-ghost use Rattle.lister.specs.Records.{RecordTold};
+ghost use Rattle.std.specs.Prelude.{◌≡◌, ◌==◌, ◌≤◌, ◌&&◌, nat_le, length};
 
 use rules::record_end;
 
@@ -39,11 +37,13 @@ pub struct Records<'a> {
 }
 
 impl<'a> Iterator for Records<'a> {
+    ghost use Rattle.std.specs.Prelude.{◌-◌, length};
+    ghost use Rattle.std.specs.Iterator.{at_most};
+    ghost use Rattle.lister.specs.Records.{Gives};
+
     type Item = Record<'a>;
 
-    ghost next_gives = { λ s r t. (t.bytes.now ≡ s.bytes.now)
-        × MatchOption r ((length s.bytes.now < s.next + 4) × (t.next ≡ s.next))
-        (λ x. RecordTold s.bytes.now s.next x.start x.kind x.payload.now t.next) };
+    ghost next_gives = { Gives };
 
     ghost remaining = { λ s. at_most (length s.bytes.now - s.next) };
 
