@@ -1,4 +1,6 @@
 // What is asked for, by the words that the program was started with.
+ghost use Rattle.std.specs.Prelude.{◌≤◌, length, IfSome};
+
 use std::env::{Env, FillError};
 
 // What is asked. Row(None) is a row that no list has: its word is no decimal number, or a number beyond every list.
@@ -26,7 +28,9 @@ fn is_given(rt: &impl Env, i: usize) -> bool {
 }
 
 // Word i, if it is given, and no longer than the lent text.
-fn given<'a>(rt: &impl Env, i: usize, text: &'a mut [u8]) -> Option<&'a [u8]> {
+fn given<'a>(rt: &impl Env, i: usize, text: &'a mut [u8]) -> Option<&'a [u8]>
+    ensures { IfSome result (λ word. length word.now ≤ length text.old) }
+{
     let n = rt.arg(i, text).ok()?;
     Some(&text[..n])
 }
