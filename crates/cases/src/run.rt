@@ -52,25 +52,34 @@ fn run(
     Ok(())
 }
 
-// The answer to a line.
-fn answer(rt: &impl Print, line: &[u8]) -> Result<(), Stop> {
+// The answer to a line, with a lent array for the case's bytes, and lent bytes and numbers.
+fn answer(
+    rt: &impl Print,
+    line: &[u8],
+    case: &mut [u8; 139999],
+    bytes: &mut [u8; 131072],
+    numbers: &mut [u32; 32768],
+) -> Result<(), Stop> {
     let mut text = Text(line);
     let command = Command::parse(&mut text).ok_or(Stop::BadLine)?;
-    let mut space = [0u8; 139999];
-    let s = decode(text, &mut space[..command.most_bytes()]).ok_or(Stop::BadLine)?;
-    let mut bytes = [0u8; 131072];
-    let mut numbers = [0u32; 32768];
-    run(rt, command, s, &mut bytes, &mut numbers)
+    let s = decode(text, &mut case[..command.most_bytes()]).ok_or(Stop::BadLine)?;
+    run(rt, command, s, bytes, numbers)
 }
 
-// A line as it is, and for a case the answer.
-fn one(rt: &impl Print, line: &[u8]) -> io::Result<()> {
+// A line as it is, and for a case the answer, in the same lent arrays.
+fn one(
+    rt: &impl Print,
+    line: &[u8],
+    case: &mut [u8; 139999],
+    bytes: &mut [u8; 131072],
+    numbers: &mut [u32; 32768],
+) -> io::Result<()> {
     rt.write_all(line)?;
     if matches!(line, [] | [b'#', ..]) {
         return Ok(());
     }
     print!(rt; " = ")?;
-    match answer(rt, line) {
+    match answer(rt, line, case, bytes, numbers) {
         Ok(()) => Ok(()),
         Err(Stop::BadLine) => print!(rt; "bad line"),
         Err(Stop::Refused(e)) => {
@@ -82,10 +91,14 @@ fn one(rt: &impl Print, line: &[u8]) -> io::Result<()> {
     }
 }
 
-// Every line in turn.
+// Every line in turn, in arrays that are made once: a line reads in them only what was written for it.
 pub fn lines(rt: &impl Print, s: &[u8]) -> io::Result<()> {
+    let mut case = [0u8; 139999];
+    let mut bytes = [0u8; 131072];
+    let mut numbers = [0u32; 32768];
     for line in s.split_inclusive(|c| *c == b'\n') {
-        one(rt, line.strip_suffix(b"\n").unwrap_or(line))?;
+        let line = line.strip_suffix(b"\n").unwrap_or(line);
+        one(rt, line, &mut case, &mut bytes, &mut numbers)?;
         println!(rt)?;
     }
     Ok(())
