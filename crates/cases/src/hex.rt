@@ -1,6 +1,6 @@
 // The bytes of a case: pairs of hex digits; a space is passed over. *N behind a pair repeats its byte to N in all, and
 // behind a group (..) all that the group holds; there is no group in a group. A text with anything else in it is no case.
-ghost use Rattle.std.specs.Prelude.{◌≤◌, length};
+ghost use Rattle.std.specs.Prelude.{◌≤◌, ◌≡◌, length, IfSome};
 
 use crate::text::Text;
 
@@ -20,7 +20,8 @@ struct Bytes<'a> {
 impl Bytes<'_> {
     // One more byte, if there is room.
     fn push(&mut self, byte: u8) -> Option<()>
-        ensures { self.old.count ≤ self.new.count }
+        ensures grows { self.old.count ≤ self.new.count }
+        ensures kept { length self.new.lent.now ≡ length self.old.lent.now }
     {
         if self.lent.len() <= self.count {
             return None;
@@ -31,7 +32,9 @@ impl Bytes<'_> {
     }
 
     // At a pair of digits: their byte.
-    fn pair(&mut self, high: u8, low: u8) -> Option<()> {
+    fn pair(&mut self, high: u8, low: u8) -> Option<()>
+        ensures kept { length self.new.lent.now ≡ length self.old.lent.now }
+    {
         let high = char::from(high).to_digit(16)?;
         let low = char::from(low).to_digit(16)?;
         self.unit = self.count;
@@ -39,7 +42,9 @@ impl Bytes<'_> {
     }
 
     // At (: a group starts with the next byte, and there is nothing yet that could be repeated.
-    fn open(&mut self) -> Option<()> {
+    fn open(&mut self) -> Option<()>
+        ensures kept { length self.new.lent.now ≡ length self.old.lent.now }
+    {
         if self.group.is_some() {
             return None;
         }
@@ -49,13 +54,17 @@ impl Bytes<'_> {
     }
 
     // At ): the group is what *N would repeat.
-    fn close(&mut self) -> Option<()> {
+    fn close(&mut self) -> Option<()>
+        ensures kept { length self.new.lent.now ≡ length self.old.lent.now }
+    {
         self.unit = self.group.take()?;
         Some(())
     }
 
     // At *N, if N is not 0, and there is something to repeat. What was repeated is not repeated once more.
-    fn repeat(&mut self, times: usize) -> Option<()> {
+    fn repeat(&mut self, times: usize) -> Option<()>
+        ensures kept { length self.new.lent.now ≡ length self.old.lent.now }
+    {
         let from = self.unit;
         let to = self.count;
         if times == 0 || from == to {
@@ -73,7 +82,9 @@ impl Bytes<'_> {
 }
 
 // The bytes of the text, in the lent slice; none if it is no case, or has more than the slice.
-pub fn decode<'a>(mut text: Text, lent: &'a mut [u8]) -> Option<&'a [u8]> {
+pub fn decode<'a>(mut text: Text, lent: &'a mut [u8]) -> Option<&'a [u8]>
+    ensures { IfSome result (λ bytes. length bytes.now ≤ length lent.old) }
+{
     let mut bytes = Bytes {
         lent,
         count: 0,
