@@ -1,6 +1,7 @@
 // The bytes of a case: pairs of hex digits; a space is passed over. *N behind a pair repeats its byte to N in all, and
 // behind a group (..) all that the group holds; there is no group in a group. A text with anything else in it is no case.
 ghost use Rattle.std.specs.Prelude.{◌≤◌, ◌≡◌, length, IfSome};
+ghost use Rattle.std.proofs.Props.{props};
 
 use crate::text::Text;
 
@@ -14,7 +15,8 @@ struct Bytes<'a> {
     unit: usize,
     // where those of the group that is open start
     group: Option<usize>,
-    ghost within: { count ≤ length lent.now },
+    ghost within: { (count ≤ length lent.now) × (unit ≤ count) },
+    ghost group_within: { IfSome group (λ g. g ≤ count) } by { Prim.hlevel props },
 }
 
 impl Bytes<'_> {
@@ -33,6 +35,7 @@ impl Bytes<'_> {
 
     // At a pair of digits: their byte.
     fn pair(&mut self, high: u8, low: u8) -> Option<()>
+        ensures grows { self.old.count ≤ self.new.count }
         ensures kept { length self.new.lent.now ≡ length self.old.lent.now }
     {
         let high = char::from(high).to_digit(16)?;
@@ -43,6 +46,7 @@ impl Bytes<'_> {
 
     // At (: a group starts with the next byte, and there is nothing yet that could be repeated.
     fn open(&mut self) -> Option<()>
+        ensures same { self.new.count ≡ self.old.count }
         ensures kept { length self.new.lent.now ≡ length self.old.lent.now }
     {
         if self.group.is_some() {
@@ -55,6 +59,7 @@ impl Bytes<'_> {
 
     // At ): the group is what *N would repeat.
     fn close(&mut self) -> Option<()>
+        ensures same { self.new.count ≡ self.old.count }
         ensures kept { length self.new.lent.now ≡ length self.old.lent.now }
     {
         self.unit = self.group.take()?;
@@ -63,6 +68,7 @@ impl Bytes<'_> {
 
     // At *N, if N is not 0, and there is something to repeat. What was repeated is not repeated once more.
     fn repeat(&mut self, times: usize) -> Option<()>
+        ensures grows { self.old.count ≤ self.new.count }
         ensures kept { length self.new.lent.now ≡ length self.old.lent.now }
     {
         let from = self.unit;

@@ -17,7 +17,9 @@ impl<'a> Text<'a> {
     }
 
     // What stands before the first space, which is passed over, or all.
-    pub fn word(&mut self) -> &'a [u8] {
+    pub fn word(&mut self) -> &'a [u8]
+        ensures no_longer { length self.new.0.now ≤ length self.old.0.now }
+    {
         let text = self.0;
         match text.iter().position(|c| *c == b' ') {
             Some(n) => {
@@ -57,19 +59,25 @@ impl<'a> Text<'a> {
     // A decimal number below a million.
     pub fn decimal(&mut self) -> Option<usize>
         ensures no_longer { length self.new.0.now ≤ length self.old.0.now }
+        ensures below { IfSome result (λ n. n < 1000000) }
     {
         let n = self.number(10)?;
         if n < 1000000 { Some(n as usize) } else { None }
     }
 
     // A decimal number below a million with which the line ends.
-    pub fn last(&mut self) -> Option<usize> {
+    pub fn last(&mut self) -> Option<usize>
+        ensures no_longer { length self.new.0.now ≤ length self.old.0.now }
+        ensures below { IfSome result (λ n. n < 1000000) }
+    {
         let n = self.decimal()?;
         if self.0.is_empty() { Some(n) } else { None }
     }
 
     // A space, which is passed over, or the end.
-    fn space(&mut self) -> Option<()> {
+    fn space(&mut self) -> Option<()>
+        ensures no_longer { length self.new.0.now ≤ length self.old.0.now }
+    {
         match self.byte() {
             None | Some(b' ') => Some(()),
             Some(_) => None,
@@ -77,14 +85,19 @@ impl<'a> Text<'a> {
     }
 
     // A decimal number below a million that stands alone.
-    pub fn size(&mut self) -> Option<usize> {
+    pub fn size(&mut self) -> Option<usize>
+        ensures no_longer { length self.new.0.now ≤ length self.old.0.now }
+        ensures below { IfSome result (λ n. n < 1000000) }
+    {
         let n = self.decimal()?;
         self.space()?;
         Some(n)
     }
 
     // A hex number of 32 bits that stands alone.
-    pub fn key(&mut self) -> Option<u32> {
+    pub fn key(&mut self) -> Option<u32>
+        ensures no_longer { length self.new.0.now ≤ length self.old.0.now }
+    {
         let n = self.number(16)?;
         self.space()?;
         Some(n)
