@@ -5,11 +5,11 @@ use reader::read_into;
 use writer::render_into;
 
 // Whether reading the candidate d gives the book b.
-fn confirms(b: &[u8], d: &[u8], back: &mut [u8]) -> bool
-    requires { 131072 ≤ length back.old }
+fn confirms(b: &[u8], d: &[u8]) -> bool
     ensures { Confirms b.now d.now result }
 {
-    match read_into(d, back) {
+    let mut back = [0u8; 131072];
+    match read_into(d, &mut back) {
         Ok(m) => back[..m] == b[..],
         Err(_) => false,
     }
@@ -26,8 +26,7 @@ pub fn tried(b: &[u8], d: &mut [u8]) -> Option<usize>
     let Ok(made) = render_into(b, d) else {
         return None;
     };
-    let mut back = [0u8; 131072];
-    if confirms(b, &d[..made.end], &mut back) {
+    if confirms(b, &d[..made.end]) {
         return Some(made.end);
     }
     None
