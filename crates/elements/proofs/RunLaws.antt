@@ -17,11 +17,7 @@ use Rattle.elements.specs.Sealed.{among, sealed_one, sealed_turn, sealed_run}
 use Rattle.elements.proofs.Auto.{tests}
 use Rattle.elements.proofs.Loops.{Left, left_start, left_next, left_done}
 use Rattle.elements.specs.Answer.{Run, refused}
-use Rattle.std.specs.Prelude.{Ok, Err, ◌∷◌, ◌||◌}
-use Rattle.std.specs.List.{list_any}
-use mathlib.Core.Path.{ap}
-use borrow.Author.Tests.{ne_eqb}
-use native.Mathlib.Decide.{ℕ_discrete as dec_eq}
+use Rattle.std.specs.Prelude.{Ok, Err}
 
 -- the turn of `sealed_run`, as the code tests it
 unfoldable pub turn : ℕ → List ℕ → List ℕ → ℕ → ℕ → Turn ℕ Run
@@ -84,14 +80,3 @@ end_past s end i h k = omega (arith, header_in s i end (sym k))
 -- and within the bytes
 pub end_in : (s : List ℕ) (end i n : ℕ) {x : Header} → end ≤ n → Ok x ≡ header s i end → x.2 ≤ n
 end_in s end i n h k = omega (arith, header_in s i end (sym k))
-
-same_either : (x y : ℕ) → eqb x y ≡ eqb y x
-same_either x y = elim (dec_eq x y) [
-  | yes e ↦ rw e refl
-  | no n ↦ ne_eqb x y n ∙ sym (ne_eqb y x (λ e. n (sym e)))
-]
-
--- whether one of the bytes is x, as the library asks it
-pub among_any : (x : ℕ) (bytes : List ℕ) → list_any (λ y. eqb y x) bytes ≡ among x bytes
-among_any x [] = refl
-among_any x (y ∷ l) = rw (same_either x y) (ap (λ b. eqb y x || b) (among_any x l))
