@@ -9,10 +9,9 @@ use Rattle.std.specs.Prelude.{Option, Some, None}
 use Rattle.elements.specs.ChoiceLaws.{by_less}
 use Rattle.rules.specs.Book.{Ends}
 use Rattle.rules.specs.BookLaws.{byte_none, byte_some}
-use Rattle.links.specs.declared.index.Entry.{Entry}
 use Rattle.links.specs.declared.index.Index.{Index}
 use Rattle.links.specs.Links.{none}
-use Rattle.links.specs.Finding.{tag_at, id_at, FoundAt, entry_at, Entered}
+use Rattle.links.specs.Finding.{id_at, entry_at, Entered}
 use Rattle.links.specs.Chains.{key_of, key_at, Key, Leads, Chained}
 use Rattle.links.proofs.IndexLaws.{by_set}
 
@@ -51,6 +50,7 @@ module _ {b : List ℕ} {n : ℕ} {x : Index} {i j : ℕ} (w : Chaining b n x i)
     same = w.same;
     entered = w.entered;
     made = record {
+      long = w.made.long;
       first = λ h g. other_first (λ q. omega (arith, none_there)) (w.made.first h g);
       next = λ k h u v g q. by_less k i (λ s. let t : k ≡ j = omega arith in absurd (omega (arith, none_there, rw t at q))) (λ s. w.made.next k h s v g q);
     };
@@ -64,11 +64,8 @@ module _ {b : List ℕ} {n : ℕ} {x : Index} {i j : ℕ} (w : Chaining b n x i)
 
   -- it is the first of its key
   module _ {p e h : ℕ} (l : (entry_at x.entries j).id ≡ Some p) (d : Ends b p e) (k : Key (slice (p + 4) e b) h) (long : length x.firsts ≡ 256) where
-    abbrev changed : Entry
-    changed = record (entry_at x.entries j) { next = get_or x.firsts h None }
-
     abbrev more : Index
-    more = record x { entries = set x.entries j changed; firsts = set x.firsts h (Some j) }
+    more = record x { firsts = set x.firsts h (Some j); nexts = set x.nexts j (get_or x.firsts h None) }
 
     pub chaining_more : Chaining b n more j
     unfolding key_at
@@ -77,24 +74,18 @@ module _ {b : List ℕ} {n : ℕ} {x : Index} {i j : ℕ} (w : Chaining b n x i)
       entered = record {
         count = w.entered.count;
         few = w.entered.few;
-        entries = record {
-          long = rw (length-set x.entries j changed) w.entered.entries.long;
-          tags = λ m g. by_set _ (λ (t : Entry). tag_at b m ≡ t.tag) x.entries j changed m fits (λ a. rw a (w.entered.entries.tags j (omega (arith, w.same)))) (λ _. w.entered.entries.tags m g);
-          ids = λ m g. by_set _ (λ (t : Entry). FoundAt b (id_at b m) t.id) x.entries j changed m fits (λ a. rw a (w.entered.entries.ids j (omega (arith, w.same)))) (λ _. w.entered.entries.ids m g);
-        };
+        entries = w.entered.entries;
       };
       made = record {
+        long = rw (length-set x.nexts j (get_or x.firsts h None)) w.made.long;
         first = λ a g. by_set None (λ y. Leads b x.n a j y) x.firsts h (Some j) a (omega (arith, k.small))
             (λ v. record { low = omega arith; skips = λ m s t. absurd (omega arith); here = λ m q. let y : m ≡ j = cc in (omega (arith, w.same), rw y (key ∙ sym v)) })
             (λ v. other_first (λ q. v (sym q ∙ key)) (w.made.first a g));
-        next = λ a g u v s q. by_set _ (λ (t : Entry). Leads b x.n g (a + 1) t.next) x.entries j changed a fits
+        next = λ a g u v s q. by_set None (λ y. Leads b x.n g (a + 1) y) x.nexts j (get_or x.firsts h None) a (omega (arith, w.same, w.made.long))
             (λ t. let y : g ≡ h = sym q ∙ rw t key in rw (t, y, ← z) (w.made.first h k.small))
             (λ t. w.made.next a g (omega arith) v s q);
       };
     }
       where
-        fits : j < length x.entries
-        fits = omega (arith, w.same, w.entered.entries.long)
-
         key : key_at b j ≡ h
         key = rw ((rw l at (w.entered.entries.ids j (omega (arith, w.same)))).is e d) k.is

@@ -108,12 +108,12 @@ module _ {b : List ℕ} {x : Index} {p e h : ℕ} (k : Key (slice (p + 4) e b) h
     answering_fits = omega (arith, (z.here j f).0, g.entered.few)
 
     -- the next one in the chain
-    lead : Leads b x.n (key_of (slice (p + 4) e b)) (j + 1) (entry_at x.entries j).next
+    lead : Leads b x.n (key_of (slice (p + 4) e b)) (j + 1) (get_or x.nexts j None)
     lead = rw k.is (g.chained.next j h (omega arith) (z.here j f).0 k.small ((z.here j f).1 ∙ k.is))
 
     -- the j-th object is told
     module _ {t : Bool} (v : AnswerTold b p e link (entry_at x.entries j).tag (entry_at x.entries j).id t) where
-      first : answers_from b p e link (unwrap_or next x.n) ≡ choose t (λ _. j ∷ answers_from b p e link (unwrap_or (entry_at x.entries j).next x.n)) (λ _. answers_from b p e link (unwrap_or (entry_at x.entries j).next x.n))
+      first : answers_from b p e link (unwrap_or next x.n) ≡ choose t (λ _. j ∷ answers_from b p e link (unwrap_or (get_or x.nexts j None) x.n)) (λ _. answers_from b p e link (unwrap_or (get_or x.nexts j None) x.n))
       unfolding answers bears
       first =
           let l = (z.here j f).0 in
@@ -121,7 +121,7 @@ module _ {b : List ℕ} {x : Index} {p e h : ℕ} (k : Key (slice (p + 4) e b) h
           let y : m.0.entry ≡ (entry_at x.entries j).tag = rw m.1 at (g.entered.entries.tags j l) in
           rw (f, ← answers_lead link (slice (p + 4) e b) lead, add-one, m.2, (rw (← y) at v).is _ (rw m.1 at (g.entered.entries.ids j l))) refl
 
-      pub answering_more : {d : List ℕ} {r : ℕ} → t ≡ true → RowsPut w c d q r (row link i p (by j) ∷ []) → Answering b p e link i x.n w a d o (entry_at x.entries j).next r
+      pub answering_more : {d : List ℕ} {r : ℕ} → t ≡ true → RowsPut w c d q r (row link i p (by j) ∷ []) → Answering b p e link i x.n w a d o (get_or x.nexts j None) r
       answering_more u y =
           record {
             few = let l : q ≤ o + j = rw f at z.few in omega (arith, lead.low, y.at);
@@ -130,7 +130,7 @@ module _ {b : List ℕ} {x : Index} {p e h : ℕ} (k : Key (slice (p + 4) e b) h
             partly = partly_more z.partly {xs = row link i p (by j) ∷ []} _ y (rw (first, u) refl);
           }
 
-      pub answering_same : t ≡ false → Answering b p e link i x.n w a c o (entry_at x.entries j).next q
+      pub answering_same : t ≡ false → Answering b p e link i x.n w a c o (get_or x.nexts j None) q
       answering_same u = record { few = let l : q ≤ o + j = rw f at z.few in omega (arith, lead.low); most = z.most; here = lead.here; partly = rw (first, u) at z.partly }
 
 -- all objects are told

@@ -6,7 +6,7 @@ use native.Mathlib.Omega.{arith}
 use Rattle.std.proofs.lemmas.List.{get_or-replicate}
 use Rattle.links.specs.Links.{Found, none, found}
 use Rattle.links.specs.declared.index.Index.{Index}
-use Rattle.links.specs.Finding.{id_at, entry_at, Entered}
+use Rattle.links.specs.Finding.{id_at, Entered}
 
 -- the key of an identifier: its last byte, 0 if it is empty; 256 where there is none
 unfoldable pub key_of : List ℕ → ℕ
@@ -41,8 +41,9 @@ blank = record { none = λ h l. get_or-replicate 256 h None None (omega arith) }
 
 -- the chains of the objects from i on: the first one of each key, and the one of its key after each object
 pub record Chained (b : List ℕ) (x : Index) (i : ℕ) : Type 0 where
+  pub long : x.n ≤ length x.nexts
   pub first : (h : ℕ) → h < 256 → Leads b x.n h i (get_or x.firsts h None)
-  pub next : (j h : ℕ) → i ≤ j → j < x.n → h < 256 → key_at b j ≡ h → Leads b x.n h (j + 1) (entry_at x.entries j).next
+  pub next : (j h : ℕ) → i ≤ j → j < x.n → h < 256 → key_at b j ≡ h → Leads b x.n h (j + 1) (get_or x.nexts j None)
 
 -- an index of all objects
 pub record Indexed (b : List ℕ) (x : Index) : Type 0 where

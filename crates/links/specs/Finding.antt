@@ -67,7 +67,7 @@ id_at b j = id_in (object_at (objects_at b 0) j)
 
 -- entry j
 abbrev pub entry_at : List Entry → ℕ → Entry
-entry_at entries j = get_or entries j (record { tag = 0; id = None; next = None })
+entry_at entries j = get_or entries j (record { tag = 0; id = None })
 
 -- the entries of the first n objects: their tags, and where the records of their identifiers are
 pub record Entries (b : List ℕ) (entries : List Entry) (n : ℕ) : Type 0 where

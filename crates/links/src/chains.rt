@@ -29,7 +29,7 @@ impl Index {
                 continue;
             };
             let h = key(b, p + 4, record_end(b, p));
-            self.entries[j].next = self.firsts[h];
+            self.nexts[j] = self.firsts[h];
             self.firsts[h] = Some(j as u8);
         }
     }

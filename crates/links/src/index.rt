@@ -7,20 +7,20 @@ use crate::finding::{find, next_object};
 use crate::sorts::id_kind;
 use rules::{byte_at, record_end};
 
-// An object: its entry's tag, where the record of its identifier is, and the next object whose identifier has the same key.
+// An object: its entry's tag, and where the record of its identifier is.
 #[derive(Clone, Copy)]
 pub struct Entry {
     pub tag: u8,
     pub id: Option<usize>,
-    pub next: Option<u8>,
 }
 
-// The objects of a book: how many there are, an entry for each, and the first object of each key.
+// The objects of a book: how many, an entry for each, the first one of each key, and the one of its key after each.
 #[derive(Drop)]
 pub struct Index {
     pub n: usize,
     pub entries: [Entry; 128],
     pub firsts: [Option<u8>; 256],
+    pub nexts: [Option<u8>; 128],
 }
 
 impl Index {
@@ -30,12 +30,9 @@ impl Index {
     {
         Index {
             n: 0,
-            entries: [Entry {
-                tag: 0,
-                id: None,
-                next: None,
-            }; 128],
+            entries: [Entry { tag: 0, id: None }; 128],
             firsts: [None; 256],
+            nexts: [None; 128],
         }
     }
 
@@ -54,7 +51,6 @@ impl Index {
             self.entries[n] = Entry {
                 tag,
                 id: find(b, i, id_kind(tag)),
-                next: None,
             };
             self.n = n + 1;
         }

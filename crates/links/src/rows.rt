@@ -64,9 +64,9 @@ fn put_row(rows: &mut [u32], w: usize, o: usize, s: Statement, answer: Option<u8
 }
 
 // Whether an object answers what is stated, by its entry.
-fn is_answer(b: &[u8], s: Statement, x: Entry) -> bool
-    requires { Lies b.now x.id × (s.at + 4 ≤ s.end) × (s.end ≤ length b.now) }
-    ensures { AnswerTold b.now s.at s.end (number_of s.link) x.tag x.id result }
+fn is_answer(b: &[u8], s: Statement, x: &Entry) -> bool
+    requires { Lies b.now x.now.id × (s.at + 4 ≤ s.end) × (s.end ≤ length b.now) }
+    ensures { AnswerTold b.now s.at s.end (number_of s.link) x.now.tag x.now.id result }
 {
     if !is_answering(u32::from(s.link), x.tag) {
         return false;
@@ -85,11 +85,10 @@ fn put_answers(b: &[u8], s: Statement, index: &Index, rows: &mut [u32], w: usize
     let mut next = index.firsts[key(b, s.at + 4, s.end)];
     let mut q = o;
     while let Some(j) = next {
-        let x = index.entries[j as usize];
-        if is_answer(b, s, x) {
+        next = index.nexts[j as usize];
+        if is_answer(b, s, &index.entries[j as usize]) {
             q = put_row(rows, w, q, s, Some(j));
         }
-        next = x.next;
     }
     if q == o {
         return put_row(rows, w, o, s, None);

@@ -95,7 +95,7 @@ peopled_told {b} {x} {link} {r} g w = go r refl (peopled link (objects_at b 0)) 
     tag : (j : ℕ) {o : Object} → object_at (objects_at b 0) j ≡ chosen o → o.entry ≡ (entry_at (take x.n x.entries) j).tag
     tag j e =
         let l = at_below (objects_at b 0) j e in
-        rw (get_or-take x.n x.entries j (record { tag = 0; id = None; next = None }) (omega (arith, l, g.entered.count))) (rw e at (g.entered.entries.tags j (omega (arith, l, g.entered.count))))
+        rw (get_or-take x.n x.entries j (record { tag = 0; id = None }) (omega (arith, l, g.entered.count))) (rw e at (g.entered.entries.tags j (omega (arith, l, g.entered.count))))
 
     go : (t : Bool) → r ≡ t → (u : Bool) → peopled link (objects_at b 0) ≡ u → r ≡ u
     go true e true z = e
