@@ -6,7 +6,7 @@ use Rattle.std.proofs.lemmas.List.Edits.{sets, sets-eq}
 use Rattle.elements.specs.Put.{Put}
 
 -- a run of stores is the first part's and then the second's, with no condition
-sets_append : (vs ws l : List ℕ) (i : ℕ) → sets l i (vs ++ ws) ≡ sets (sets l i vs) (i + length vs) ws
+sets_append : {A : Type 0} (vs ws l : List A) (i : ℕ) → sets l i (vs ++ ws) ≡ sets (sets l i vs) (i + length vs) ws
 sets_append [] ws l i = rw add-zero
 sets_append (a ∷ vs) ws l i =
     sets_append vs ws (set l i a) (suc i) ∙ ap (λ (k : ℕ). sets (sets (set l i a) (suc i) vs) k ws) (omega arith)
@@ -16,12 +16,12 @@ pub put_none : {A : Type 0} (out : List A) (o : ℕ) → Put out out o o []
 put_none out o = record { at = omega arith; to = refl }
 
 -- a put leaves the slice its length
-pub put_length : {a b : List ℕ} {o p : ℕ} {x : List ℕ} → Put a b o p x → length b ≡ length a
-put_length {a} {b} {o} {p} {x} f = rw f.to (length-sets a o x)
+pub put_length : {A : Type 0} {a b : List A} {o p : ℕ} {x : List A} → Put a b o p x → length b ≡ length a
+put_length {A} {a} {b} {o} {p} {x} f = rw f.to (length-sets a o x)
 
 -- one thing after the other
-pub put_put : {a b c : List ℕ} {o p q : ℕ} {x y : List ℕ} → Put a b o p x → Put b c p q y → Put a c o q (x ++ y)
-put_put {a} {b} {c} {o} {p} {q} {x} {y} f g = record {
+pub put_put : {A : Type 0} {a b c : List A} {o p q : ℕ} {x y : List A} → Put a b o p x → Put b c p q y → Put a c o q (x ++ y)
+put_put {A} {a} {b} {c} {o} {p} {q} {x} {y} f g = record {
   at = omega (arith, length-append x y, f.at, g.at);
   to = g.to ∙ rw (f.at, f.to) (sym (sets_append x y a o));
 }
@@ -54,8 +54,8 @@ pub put_then3 : {a b c d : List ℕ} {o p q r : ℕ} {x y z w : List ℕ} → Pu
 put_then3 f g h e = put_then (put_put f g) h e
 
 -- a put that fits is a splice
-pub put_fits : {a b : List ℕ} {o p : ℕ} {x : List ℕ} → Put a b o p x → p ≤ length a → b ≡ take o a ++ x ++ drop p a
-put_fits {a} {b} {o} {p} {x} f h = f.to ∙ rw f.at (sets-eq x a o (omega (arith, f.at)))
+pub put_fits : {A : Type 0} {a b : List A} {o p : ℕ} {x : List A} → Put a b o p x → p ≤ length a → b ≡ take o a ++ x ++ drop p a
+put_fits {A} {a} {b} {o} {p} {x} f h = f.to ∙ rw f.at (sets-eq x a o (omega (arith, f.at)))
 
 -- what a put left in its place
 pub put_there : {a b : List ℕ} {o p : ℕ} {x : List ℕ} → Put a b o p x → p ≤ length a → slice o p b ≡ x
@@ -72,13 +72,13 @@ put_upto {a} {b} {o} {p} {x} f h =
     rw (put_fits f h) (take_at (take o a ++ x) (drop p a) p m)
 
 -- into no room nothing is put
-pub put_empty : {b : List ℕ} {o p : ℕ} {x : List ℕ} → Put [] b o p x → b ≡ []
-put_empty {b} {o} {p} {x} f = f.to ∙ none x o
+pub put_empty : {A : Type 0} {b : List A} {o p : ℕ} {x : List A} → Put [] b o p x → b ≡ []
+put_empty {A} {b} {o} {p} {x} f = f.to ∙ none x o
   where
-    none : (x : List ℕ) (o : ℕ) → sets [] o x ≡ []
+    none : (x : List A) (o : ℕ) → sets [] o x ≡ []
     none [] o = refl
     none (a ∷ x) o = none x (suc o)
 
 -- any two results that a put allows are equal
-pub put_same : {a b c : List ℕ} {o p q : ℕ} {x : List ℕ} → Put a b o p x → Put a c o q x → (b ≡ c) × (p ≡ q)
+pub put_same : {A : Type 0} {a b c : List A} {o p q : ℕ} {x : List A} → Put a b o p x → Put a c o q x → (b ≡ c) × (p ≡ q)
 put_same f g = (f.to ∙ sym g.to, f.at ∙ sym g.at)
