@@ -8,11 +8,11 @@ loop-j-init c = search telling_none
 pub returns-then-is_closing : goal.returns-then-is_closing
 returns-then-is_closing c = search (telling_closed, rules)
 
-pub loop-j-preserved-in-Some : goal.loop-j-preserved-in-Some
-loop-j-preserved-in-Some c = search (telling_more, rules)
-
 pub loop-j-preserved : goal.loop-j-preserved
 loop-j-preserved c = search (telling_same, rules)
+
+pub loop-j-preserved-in-Some : goal.loop-j-preserved-in-Some
+loop-j-preserved-in-Some c = search (telling_more, rules)
 
 pub returns : goal.returns
 returns c = search (telling_all, rules)
